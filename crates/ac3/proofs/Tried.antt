@@ -1,0 +1,361 @@
+-- Frames on which the definition gives what the Rust gives, as `specs/Listing.antt` says it in short.
+-- Made by tools/tried.py from tools/frames.txt. Assumes nothing.
+use mathlib.Core.List.{List, [], _∷_, _++_}
+use mathlib.Core.Path.{_≡_, refl}
+use Prim.Native.Nat.{ℕ}
+use Rattle.bits.specs.Bits.{bitAt, value, bitsBefore}
+use Rattle.syntax.specs.Grammar.{_>>=_, turns}
+use Rattle.syntax.specs.Numbers.{shown}
+use Rattle.syntax.specs.Place.{except, exec, andThen, flatten, landing, finish}
+use Rattle.syntax.specs.Reads.{from as Reads-from, walked}
+use Rattle.syntax.specs.Run.{roomCheck, check, sum, unless, run, continue}
+use Rattle.tables.specs.Tables.{nfchans, words48, words44, frameBytes, slowDecay, fastDecay, slowGain, knee, floor, fastGain, bapBits, bandEnd, logAdd, hearing, bap}
+use Rattle.alloc.specs.Alloc.{logadd, lowcomp, snrOffset, level, kept, threshold, bapOf, bandSum, bandOf, startOf, endOf, bandLevel, lowAfter, rises, fallTo, overKnee, maskOf}
+use Rattle.alloc.specs.Delta.{deltaOf, passed, deltaIn, deltaSum}
+use Rattle.alloc.specs.Excite.{startLeak, lowered, fallLeak, leakStep, leakAfter}
+use Rattle.alloc.specs.Listed.{from as Listed-from, table, excitations, pointerList}
+use Rattle.blocks.specs.Delta.{deltaCode, channelCode, segment, newDeltas, slotDeltas, codedDeltas, deltas}
+use Rattle.blocks.specs.Exponents.{step, group, exponentSet, slotExponents, channelExponents, exponents}
+use Rattle.blocks.specs.Mantissas.{silent, pointers, allPointers, widths, mantissas}
+use Rattle.blocks.specs.Parameters.{newCurve, curve, fineOffset, channelOffset, newOffsets, offsets, newLeak, couplingLeak}
+use Rattle.blocks.specs.Slots.{channelParts, parts}
+use Rattle.ac3.specs.AudioBlock.{channelFlags, dynamicRange, skipField, allocState, allSent, audioBlock}
+use Rattle.ac3.specs.Coupling.{howMany, coupledChannels, joined, couplingBands, newCoupling, couplingStrategy, coordinate, channelCoordinates, phaseFlags, couplingCoordinates, rematrixing}
+use Rattle.ac3.specs.Frame.{audio, syncframe, answered}
+use Rattle.ac3.specs.Header.{syncinfo, programmeInfo, alternateInfo, timeCodes, additionalInfo, bsi, header}
+use Rattle.ac3.specs.Listing.{bytes, plusOne, checksum, verdict, short}
+use Rattle.ac3.specs.Strategies.{channelStrategies, exponentStrategies, bandwidth, bandwidths, channelEnd, channelEnds}
+use Rattle.ac3.specs.Listing.{listing}
+
+-- ffmpeg, 2/0, 48 kHz, coupling in every block
+abbrev stereo : List ℕ
+stereo =
+    bytes 64 0x0b77773e024043e106f0010c0c0c21818187d69f3f7d8042c3ef8fdbe7d0df3e7c6010b0fbfcf9e9f3e7cf9f197f292244900b537c6d9f40b105a9be36cfa058
+    ++ bytes 64 0x98209aef9fbe7cf80f96f24d85108187cb7926c288403000067ea4023f7226633f52011fb913180003e9340f39255e01f49a079c92af0c184d786f80c3b038ff
+    ++ bytes 32 0x62020c61d81c7fb101030614fabbe030741e02614a66183a0f0130a530008dc5
+
+-- ffmpeg, 1/0, 44.1 kHz
+abbrev mono : List ℕ
+mono =
+    bytes 64 0x0b772cef48402f8429538005498be7ca6aa9bea6f9f42a6a9f3e7cf9f3e7cfa9a9a6a6bbe7cf9f3e7cf9f3e7cf9f3e7cf8cbfc7702a42eb25e30d1e3de7672d3
+    ++ bytes 64 0x95026457931791d71d09c29726589f66ff9f56769ac79da940314fbd9b388805f6e9c82e1419e4c167ac3dee21e92813615d22c221fffd2fa8d91b36a500e2df
+    ++ bytes 64 0x7508d06fad8668744ef52aed952edb7b841b419630983207fa4e03f457a267250d2403aa86180e09ec843aaa14821a10198ce489f772878e08768ba80c8c6fe0
+    ++ bytes 64 0x2e96919c8d6a5000780d4009e01657971889577148fcae360f3b4145cdcc60fab6f0a65f9fbdb3b6e5d08940399fdd4076c05960372131a169801aa4f0e89a60
+    ++ bytes 22 0xce9e27625c82b64f047c651b8b9746a4000000008ad7
+
+-- acmod 0 with LFE, bsid 6, 32 kHz, coupling and delta segments in every block
+abbrev two-programmes : List ℕ
+two-programmes =
+    bytes 64 0x0b77738a80321a820451eed7556f8e25f1723db6c8be15b9bc04e90abc090a28f2229b9a20bf56456b85f051bf03da079028a7f32d045a31c97ad50959cb9e6d
+    ++ bytes 64 0x3125bc037173e33f0edbec8162323644100000000000000001f100552df034364801253cde692f888d0fb9b800021441978699af11294ee50033082b81059f06
+    ++ bytes 64 0x166b21a22146277e5f71582759e72750773a5460005ac5014f646721e3409f7aec00d08ed91ef0001537c42433e363d5e74313ef2ee703c33880a5d57759087c
+
+-- acmod 0 with LFE, bsid 6, eight coupling delta segments
+abbrev eight-segments : List ℕ
+eight-segments =
+    bytes 64 0x0b773cb30134130d0471e8de7f6a47802c87323d08e78d38d79e32c4abc6042854e1bdd001070e0b00a13c0015c30e98000e1c50002853e0038d8ef7e0c7c851
+    ++ bytes 64 0xe939b968417244f09c000863f2cf7d40b80fb2e714051c1fb63ab6ba1d3b76636624865b7b9ac1f4531e63e90da4640b2dcc20ab2d56bd095b8f8855c717f9e8
+
+-- 3/2 with LFE
+abbrev surround : List ℕ
+surround =
+    bytes 64 0x0b77bf470c47fd0cbecd857355889b08b1d166438edffc00030815d930d764eeb340f65165b1e5eba4b07c4d6d2a5e626c843668fb4b38fdd0c1829adef57300
+    ++ bytes 64 0x2830c082071eeea8038464c492d5d53c73f3a80a0ee23f028417d1142fb4d8d48d6c57af415bf8772e51f1f41f27c1001600606fa42ef109f31363909de380fc
+    ++ bytes 64 0x08015c08eff89346412b4fd6612c7e7f707b33eeba5680040060810196ec18060208ff12759f83508000102080c39175486ad9e6cb3ea8e52295c601dee56235
+    ++ bytes 64 0x3d92b317c650ef2d423f469866d9e6152ba2f1df658e3d55539b5619eed4992242132fe86b6ebee6868ce9df43eac5df285f58dba5e08a43b6b2878b6a5a8d08
+    ++ bytes 64 0xcd30b4d0486aefa4808cbbf8cc0c4eaf17206a6bece82ce11b84f6472b5a32ec9b7d160b5830d397b9c441820bf684e5174984b957f911ecc35e089cc371b199
+    ++ bytes 64 0xdae09fb359a3813a2cb12ebb434028a7949adfd2cccde264dbcae371a17d1ca6161d8c0ca4285f07b6ead0d06ab72a0037b890d52979e8596fb9c90f2c971ba0
+
+-- 2/1 with LFE, coupling and delta segments
+abbrev coupled-surround : List ℕ
+coupled-surround =
+    bytes 64 0x0b77535f02429c384addd7cc1b44940b7c261f111c5a1795fface896a16d5c49c1131d3462fb04a6a8a4efde9400a181870547550f0000000000000000000000
+    ++ bytes 64 0x00000000000000000000000000000000000000559a25bfa178002334734915d562b59081722f63b523db2609628c194893fbc003bea8e7d4cb6f2b2000d2d7df
+    ++ bytes 32 0x21cba43ea46caf52b3d4182f2ed53f3e8c8c1a24001a865af19f8fc9c0020042
+
+-- coupling in one block only, coordinates sent
+abbrev some-coupled : List ℕ
+some-coupled =
+    bytes 64 0x0b7729ce01464fbba4db4cd8e7f32be27552a9a97fad84d739f424b770d768c65a0da55310f7b64e64d642da141c0c3a5b4882996a15758400e18001c24a9f82
+    ++ bytes 64 0x0579a52c97418c87ec44d9c73e1510983180e5feabc7cc8c1aa0020a08f0006b4ae0340beb0008b8001324a1bc913e8c44c45e60406e8377307a494503786c71
+
+-- phase flags, and a coupling start exponent of 26
+abbrev phase-flags : List ℕ
+phase-flags =
+    bytes 64 0x0b77213b012641031cfa124abffe8b916066ec8c4d8723b600eca91573c020050013a8621040018ea60003cfc0002159c000a3eb80014f14f7953161686e56d5
+    ++ bytes 64 0xf886235860da647f116e8fd292f02a174f010d9a874e77f192dace955355d257a68c9a114d3ef60dee5a5d6bd50018211feac129180e38f77820edc14ca8596d
+
+-- coupling exponents reused after a pause without coupling
+abbrev pause : List ℕ
+pause =
+    bytes 64 0x0b776fc0093410020ca53c28f3e3c6bd8581e934d13c47a46b115b0041e790deadfd71360cd99c9a910df99adfd5da59ba8b0e54364c0a430639454f60e31d29
+    ++ bytes 64 0x67b38e9fe4e40b12dc83c732cb4c5488f344bb0d034c68e8f23db4cbea5fe07482e08349aab1c4e1d5448f34917c71373b538b0a2e95dcc936a8aa35c9360efe
+    ++ bytes 64 0xd6ae7b20ea20dd8e36b3ac649b776f1e817e61dd96eeb6a67664634a105c93ca118392291a989db3fb8c156fd890ccaf9215943fe1224717f7b562d5284d318c
+    ++ bytes 64 0x0cf269d056179d054a9090066088ca3b26e0802e6ed8d01bf3e50eee3bc5ce7e3c8568ee6ce151632b6ee66d3e8dcca96fb75860b4acdbf400618000200fb87f
+
+-- channel exponents reused as the channel joins or leaves coupling
+abbrev joining : List ℕ
+joining =
+    bytes 64 0x0b7720e603344c6b04fee406454f8200491ae37a580c6edea5223ccbbec5679fe0060418e1e1001732740b1981ce79275ae9ae7fbce0f68064db898515807826
+    ++ bytes 64 0xac75cf85fafcd079df17b33667cbc0d9a9a3627eb9c4b170aacf2969880c945e267be9ed07c4b63b7e3bcb47ccd5173d7717cbe5193dfce2cda0180140850218
+    ++ bytes 32 0xfbfd5eec889bc2b582e0f6c665059d84e6a6fab29573f94ae619c2f6bbf038fb
+
+-- all SNR offsets 0, coupling in use, its leak never sent
+abbrev quiet-coupling : List ℕ
+quiet-coupling =
+    bytes 64 0x0b7753a04137418108bde18835aef24cfc888d232c8136cf441400400010b182b96ec8ed1df01f6b0c6108182a858c02bd6baef5c6004019bd44c4746d59eee2
+    ++ bytes 64 0xa56c181b55c671deebe07e93200333e20a79255ecdcd7dedf4e71f68f7c4b059da482f0a0a621e27984323f0dafd09c81302f534942f56c0a5590038406a1a42
+    ++ bytes 12 0x4fd5a03afc8a0834100ffe02
+
+-- mantissas of width 0 in every block
+abbrev zero-width : List ℕ
+zero-width =
+    bytes 64 0x0b77d9a000442f804b0ed39a4faea4c315d6400c20180600804009b97352edaf8905252ccb0c0d6f217410c5cbdcfc6ff16d33b4627739780320805bab2a64b8
+    ++ bytes 64 0x8e0c5a590b53692fb1a755db5cec2a913917d8e5ad23309ba6669b95650df280af1b5f0d17f8b603f146a4746e414e93a43ccedb28a7f65958ec4463808c8e1d
+
+-- audio up to the frame's last bit
+abbrev to-the-end : List ℕ
+to-the-end =
+    bytes 64 0x0b7763c40111211f94f878f4c52113d81df072bc2ef397734e60ac1385ed7374e7b59eb2d9a40d4e6445bde3a8871212c74cbd52c5d335a181d5e340a5d3cc60
+    ++ bytes 64 0x27c4d12119ad67ca359008df0a04005a202c04681ca4e2868595213e830f75b6db667cb0536722b2b2c97e0582088a235295c189f953023e36790dfa7229d7fb
+
+-- skipl 0
+abbrev skip-nothing : List ℕ
+skip-nothing =
+    bytes 64 0x0b773f3a0128270c6b0de2d314a343a205d2c19c803ddb9e0140312243e000016800b4003ecb11e0401a582a9b80319e29aec4b07c8620060045b60fcfb6a1a8
+    ++ bytes 64 0x016779ae23db0f771b3cd725400e3e4db2360f3100001ee000010330eedf89d78a9e45140ecd70591396925f1d0c70f02e66600a00cc237b073d0af5ca815a5b
+
+-- addbsil 63
+abbrev addbsi-longest : List ℕ
+addbsi-longest =
+    bytes 64 0x0b777e840134258cfeb5006d24a576a840b3840397b5a675282aa60651abc79ef8ed034f4d912e19d7301f4f67b1c14267f320afa4e2310c3041905bcc102c35
+    ++ bytes 64 0xdadb297b52d47a6d05ac3174979087fa5050310988800002010080043433b78ff4258a3845315bd5590f822e02c01872b0ef312da050010100d68cf027f91606
+
+-- chbwcod 60
+abbrev widest : List ℕ
+widest =
+    bytes 64 0x0b7722fc402a2f11f7483a21417187790469e7c07cef879477c23872b4283c100a2191bf02c6b8e887eb4d5f5e0be9cb939f350a3d84199bbe1e2d8ece7c7828
+    ++ bytes 64 0xac9e128068fc287b81a222b8361224000792067b60ffc0424e7116e08ddad8fe825686e2de26e3d5e0474a8141fd55f44608428485a10a6b21feccc9f2c77686
+    ++ bytes 10 0xcbbe4bf10c2780185880
+
+-- names that the others lack
+abbrev other-names-1 : List ℕ
+other-names-1 =
+    bytes 64 0x0b7790ba4a3105c5a9f9c6bf4e2f4a691aaf8fc6c57f6afa60950b6adaa9f50d68449dbfdf100cd96e7eb652e9bb1a0e4471849dece2902716f546c38ac07855
+    ++ bytes 64 0xf82de3afbcd8c6b4119b0474001dbb0f6a69bac168b7b259416f563362d1e40594cf66b9dac1cc607475b070d9e256eedb970b1780414fbe6ee6b6100c5e9591
+    ++ bytes 64 0x82a369b7b7159f2a77256ee048b689a9742392e1657c283637e59a38014307cbaa1f000000000000000000000000000000000000000000000000000000000000
+    ++ bytes 64 0x00ebec517c56800948f9ea80032bd446be714b221486888774b0fd8020010c15468b38357561cacc9ac357f4e0d783ad70201d7179b869f31c12b5e915eacc49
+    ++ bytes 64 0x5a415805c9253f3dde9e64ab0cba5b934ba33763c4f2cda66084bedcc5cc9ccd648ae196153ab7d90988db4a16abad24624517cd5b18400a142289cccc5e70e6
+    ++ bytes 28 0x729df92d49efcc556f1bb79d80800838764bab560e154030544d9e3b
+
+-- delta segments that stay while deltbaie is 0
+abbrev deltas-stay : List ℕ
+deltas-stay =
+    bytes 64 0x0b77fb63404226efaf538789cbd7906a6f894c808d6872e8d0dc431512955a7c7354f0201df33aa0540ec6c2968d800000000000000000000000000000000000
+    ++ bytes 64 0x00000000000000000000000000000000000000000000000000000000000000000000000011f8fc000efbdb601007182e1f000ddd8f82c4b0e12567256476539a
+    ++ bytes 10 0xed8fa6e501108a8510a3
+
+-- document 01's listing
+abbrev fscod-3 : List ℕ
+fscod-3 =
+    bytes 6 0x0b770000c000
+
+-- five bytes
+abbrev refusal-1 : List ℕ
+refusal-1 =
+    bytes 5 0x0b77000000
+
+-- no sync word
+abbrev refusal-2 : List ℕ
+refusal-2 =
+    bytes 64 0x33dd7e840134258cfeb5006d24a576a840b3840397b5a675282aa60651abc79ef8ed034f4d912e19d7301f4f67b1c14267f320afa4e2310c3041905bcc102c35
+    ++ bytes 64 0xdadb297b52d47a6d05ac3174979087fa5050310988800002010080043433b78ff4258a3845315bd5590f822e02c01872b0ef312da050010100d68cf027f91606
+
+-- one byte short
+abbrev refusal-4 : List ℕ
+refusal-4 =
+    bytes 64 0x0b77773e024043e106f0010c0c0c21818187d69f3f7d8042c3ef8fdbe7d0df3e7c6010b0fbfcf9e9f3e7cf9f197f292244900b537c6d9f40b105a9be36cfa058
+    ++ bytes 64 0x98209aef9fbe7cf80f96f24d85108187cb7926c288403000067ea4023f7226633f52011fb913180003e9340f39255e01f49a079c92af0c184d786f80c3b038ff
+    ++ bytes 31 0x62020c61d81c7fb101030614fabbe030741e02614a66183a0f0130a530008d
+
+-- bsid above 8
+abbrev refusal-5 : List ℕ
+refusal-5 =
+    bytes 64 0x0b777e84014c258cfeb5006d24a576a840b3840397b5a675282aa60651abc79ef8ed034f4d912e19d7301f4f67b1c14267f320afa4e2310c3041905bcc102c35
+    ++ bytes 64 0xdadb297b52d47a6d05ac3174979087fa5050310988800002010080043433b78ff4258a3845315bd5590f822e02c01872b0ef312da050010100d68cf027f91606
+
+-- a field past the frame
+abbrev refusal-6 : List ℕ
+refusal-6 =
+    bytes 64 0x0b7758d701462c042b0255e987286b075120756c828102dcaad2c454578a7b52540080648a8d4456a514d07d5225eb382aff8ae4ad55294b08df3ecbe8ba784f
+    ++ bytes 64 0x60fdd829b4281db8f56213709312c5f611b00b2f82281bc319ca4a7c231ac67e200a22d9c0451e0c1c784034fa7a4e5b06ae2f46000ecc6d12f5be2857b0147f
+
+-- a mantissa past the frame
+abbrev refusal-6-walk : List ℕ
+refusal-6-walk =
+    bytes 64 0x0b77d9a000442f804b0ed39a4faea4c315d66e0c20180600804009b97352edaf8905252ccb0c0d6f217410c5cbdcfc6ff16d33b4627739780320805bab2a64b8
+    ++ bytes 64 0x8e0c5a590b53692fb1a755db5cec2a913917d8e5ad23309ba6669b95650df280af1b5f0d17f8b603f146a4746e414e93a43ccedb28a7f65958ec4463808c8e1d
+
+-- a mantissa past the frame, behind those of coupling
+abbrev refusal-6-coupled : List ℕ
+refusal-6-coupled =
+    bytes 64 0x0b773cb30134130d0471e8de7f6a47802c87323d08e78d38d79e32c4abc6042854e1bddb81070e0b00a13c0015c30e98000e1c50002853e0038d8ef7e0c7c851
+    ++ bytes 64 0xe939b968417244f09c000863f2cf7d40b80fb2e714051c1fb63ab6ba1d3b76636624865b7b9ac1f4531e63e90da4640b2dcc20ab2d56bd095b8f8855c717f9e8
+
+-- block 0 has cplstre 0
+abbrev refusal-8-cplstre : List ℕ
+refusal-8-cplstre =
+    bytes 64 0x0b773f3a0128270c630de2d314a343a205d2c19c803ddb9e0140312243e000016800b4003ecb11e0401a582a9b80319e29aec4b07c8620060045b60fcfb6a1a8
+    ++ bytes 64 0x016779ae23db0f771b3cd725400e3e4db2360f3100001ee000010330eedf89d78a9e45140ecd70591396925f1d0c70f02e66600a00cc237b073d0af5ca815a5b
+
+-- block 0 has rematstr 0
+abbrev refusal-8-rematstr : List ℕ
+refusal-8-rematstr =
+    bytes 64 0x0b771da100304182148678eecf1f6c5540eed243f43dbac26cbe74c8a5ed43ee100086099893de00000436000f000020000f2b35eb00038568e661a4c3151c5a
+    ++ bytes 64 0x1618afa80ab45805881bf9d1917d39872af7b4e60b7d5e255cb4c81adab49cdf5ae491874f0f62b9c61f0b35fb67fcbb4c186dac6b9377df5e3a9ea871c4c4b0
+
+-- block 0 has baie 0
+abbrev refusal-8-baie : List ℕ
+refusal-8-baie =
+    bytes 64 0x0b7758d701462c042b0255e987286b05512001100c0102dcaad2c454578a7b52540080648a8d4456a514d07d5225eb382aff8ae4ad55294b08df3ecbe8ba784f
+    ++ bytes 64 0x60fdd829b4281db8f56213709312c5f611b00b2f82281bc319ca4a7c231ac67e200a22d9c0451e0c1c784034fa7a4e5b06ae2f46000ecc6d12f5be2857b0147f
+
+-- block 0 has snroffste 0
+abbrev refusal-8-snroffste : List ℕ
+refusal-8-snroffste =
+    bytes 64 0x0b773f3a0128270c6b0de2d314a343a205d2819c803ddb9e0140312243e000016800b4003ecb11e0401a582a9b80319e29aec4b07c8620060045b60fcfb6a1a8
+    ++ bytes 64 0x016779ae23db0f771b3cd725400e3e4db2360f3100001ee000010330eedf89d78a9e45140ecd70591396925f1d0c70f02e66600a00cc237b073d0af5ca815a5b
+
+-- cplbegf above cplendf + 2
+abbrev refusal-9 : List ℕ
+refusal-9 =
+    bytes 64 0x0b7712f4001524044f0acac536da8d411d65c00b88110060180001f814b76461f8b50f9fbce629cf2c47d80209e1a7c2435cab27e7cae3046f2543faa30ec25f
+    ++ bytes 64 0x9bf0a0f38ccf90990914702250eae329b268438bd5d0a3d66e20c6c6738e8c2d5cd01c0a6b409117ef14442a37848ce374d05cc7dd1a1278553149ac510ef90e
+
+-- one coupled channel
+abbrev refusal-10 : List ℕ
+refusal-10 =
+    bytes 64 0x0b7752310019230c6ffbe57fcb4a1e2876158bc0c6e13ed1845f2defa848b0db74ef82c846ea008c09098e8ae5596a9761b30a7fdd0fbc2e73c5b5d120a00006
+    ++ bytes 64 0x00c0b16cb7a7face1877be6d240f74ae21f2c68cc6c68f69867882eae85213a792ef483a402e4c5da253869951f05e2d5f2a795b3b4ce0c9e51b23c064145b27
+
+-- chbwcod above 60
+abbrev refusal-11 : List ℕ
+refusal-11 =
+    bytes 64 0x0b7758d701462c042bf832fc87286b07512001100c0102dcaad2c454578a7b52540080648a8d4456a514d07d5225eb382aff8ae4ad55294b08df3ecbe8ba784f
+    ++ bytes 64 0x60fdd829b4281db8f56213709312c5f611b00b2f82281bc319ca4a7c231ac67e200a22d9c0451e0c1c784034fa7a4e5b06ae2f46000ecc6d12f5be2857b0147f
+
+-- bandwidth never sent
+abbrev refusal-12 : List ℕ
+refusal-12 =
+    bytes 64 0x0b7752310019230c68050b1fcb4a1e2876158bc0c6e13ed1845f2defa848b0db74ef82c846ea008c09098e8ae5596a9761b30a7fdd0fbc2e73c5b5d120a00006
+    ++ bytes 64 0x00c0b16cb7a7face1877be6d240f74ae21f2c68cc6c68f69867882eae85213a792ef483a402e4c5da253869951f05e2d5f2a795b3b4ce0c9e51b23c064145b27
+
+-- coupling exponents reused over another range
+abbrev refusal-13 : List ℕ
+refusal-13 =
+    bytes 64 0x0b777c7e84221c898039ffc0ac35b9c63b22da3e2b33beb465057fc497873328f7ee6c910bd062189d2b32b1912e413e0c7cb5af2c32209eaaf711df90a9e88c
+    ++ bytes 64 0xcf996978b4517997bcfb85ac8e01221809c3a578513b2f9ea482c56b43bbb65840a5d35a1cae3d74dd4915c112ea8db6a62b9fd978faf8a45c9d4cc32e28c5bb
+    ++ bytes 64 0xabcb9bdf99fa4f5c4ed5450b9cb7631306bb5a8380181830152adcaa977dd63e0b9f00642c78a3f0e2a4de11be7f00017a486ff2000084f138087d8008501c3c
+    ++ bytes 64 0x54edf8013b489287845fddc4002440480e57cc12b3195d8ba3fd846d4b6125a77db0db7cc10bdef095687d23347e6a6326986b5c7601cfa2c6814bdc5cf77dfa
+    ++ bytes 32 0x562896dc597fefdd9fd21c412f60b9ef31164e0fc91956fac7cf68c19f3c46e7
+
+-- channel exponents reused with another end
+abbrev refusal-14 : List ℕ
+refusal-14 =
+    bytes 64 0x0b77213b012641031cfa124abf9e8b916066ec8c4d8723b600eca91573c020050013a8621040018ea60003cfc0002159c000a3eb80014f14f7953161686e56d5
+    ++ bytes 64 0xf886235860da647f116e8fd292f02a174f010d9a874e77f192dace955355d257a68c9a114d3ef60dee5a5d6bd50018211feac129180e38f77820edc14ca8596d
+
+-- LFE exponents never sent
+abbrev refusal-15 : List ℕ
+refusal-15 =
+    bytes 64 0x0b77d9a000443f804b0ed39a4faea4c315d6400c20180600804009b97352edaf8905252ccb0c0d6f217410c5cbdcfc6ff16d33b4627739780320805bab2a64b8
+    ++ bytes 64 0x8e0c5a590b53692fb1a755db5cec2a913917d8e5ad23309ba6669b95650df280af1b5f0d17f8b603f146a4746e414e93a43ccedb28a7f65958ec4463808c8e1d
+
+-- group above 124
+abbrev refusal-16 : List ℕ
+refusal-16 =
+    bytes 64 0x0b77caed48402f842ae83fcef9f38437cfabbe7cfabbe7cf9f3e7cf9f3e32febc400bfffddffbf900e9b682c950caf56aae64724018008002000f188000001ff
+    ++ bytes 64 0x000007bf0c093f15ee0742351925e658521004001fde310000fffff802803ff1842ffdc1a00198f01df08a8608e280fe03c624a17a05f3e3e7cfdf577cf9f3f7
+    ++ bytes 64 0xcf9f3e86f9f3e7c07ebf37fe1f13863cebe4bd95fab2819c21fdcb7bf75eaffffffffb000400129249b5b1d6b5ad35ad6b5a940297ff803d383fb417fdb28cd6
+    ++ bytes 64 0x9485bab577e785200a1301bf02f05399cf699a69a4d4351ada1a86a20d4026a1c1f9f3e437cfdf3e7cf805dd670242a0240003fa3e11cfffbcc6c622c1083ec1
+    ++ bytes 22 0x5c060000100200000000000000000000001b6c00ff91
+
+-- exponent outside 0 to 24
+abbrev refusal-17 : List ℕ
+refusal-17 =
+    bytes 64 0x0b772cef48402f8429381696498be7ca6aa9bea6f9f42a6a9f3e7cf9f3e7cfa9a9a6a6bbe7cf9f3e7cf9f3e7cf9f3e7cf8cbfc7702a42eb25e30d1e3de7672d3
+    ++ bytes 64 0x95026457931791d71d09c29726589f66ff9f56769ac79da940314fbd9b388805f6e9c82e1419e4c167ac3dee21e92813615d22c221fffd2fa8d91b36a500e2df
+    ++ bytes 64 0x7508d06fad8668744ef52aed952edb7b841b419630983207fa4e03f457a267250d2403aa86180e09ec843aaa14821a10198ce489f772878e08768ba80c8c6fe0
+    ++ bytes 64 0x2e96919c8d6a5000780d4009e01657971889577148fcae360f3b4145cdcc60fab6f0a65f9fbdb3b6e5d08940399fdd4076c05960372131a169801aa4f0e89a60
+    ++ bytes 22 0xce9e27625c82b64f047c651b8b9746a4000000008ad7
+
+-- deltbae 0 in block 0
+abbrev refusal-18 : List ℕ
+refusal-18 =
+    bytes 64 0x0b7758d701462c042b0255e987286b0751200189549802dcaad2c454578a7b52540080648a8d4456a514d07d5225eb382aff8ae4ad55294b08df3ecbe8ba784f
+    ++ bytes 64 0x60fdd829b4281db8f56213709312c5f611b00b2f82281bc319ca4a7c231ac67e200a22d9c0451e0c1c784034fa7a4e5b06ae2f46000ecc6d12f5be2857b0147f
+
+-- deltbae 3
+abbrev refusal-19 : List ℕ
+refusal-19 =
+    bytes 64 0x0b7758d701462c042b0255e987286b07513047e24c0102dcaad2c454578a7b52540080648a8d4456a514d07d5225eb382aff8ae4ad55294b08df3ecbe8ba784f
+    ++ bytes 64 0x60fdd829b4281db8f56213709312c5f611b00b2f82281bc319ca4a7c231ac67e200a22d9c0451e0c1c784034fa7a4e5b06ae2f46000ecc6d12f5be2857b0147f
+
+-- coupling leak never sent
+abbrev refusal-20 : List ℕ
+refusal-20 =
+    bytes 64 0x0b770429024043e106f0010c0c0c21818187d4b0a9a8ababc27d5dd265b59fbe542aeaf09f7cf9f1f3e7cf9f197f23e7cf8007bc22b48ab1245b5246a9cf22b4
+    ++ bytes 64 0x60c0eb43840d3c6a94c7958db61306a2cc624c181bed6fc13792554ec7b9841d54e7bc70018303a6f9f01a7a141dd8273586cb61419830380a530196ace53c6d
+    ++ bytes 32 0x711ae93437659ca306070d38c065e55ac44d96cb478985aaae188ba9a9005c9d
+
+accepted :
+    (listing 2048 stereo ≡ 211 ∷ 1254 ∷ 1766583025364128360 ∷ 0 ∷ 160 ∷ 8 ∷ 2 ∷ 0 ∷ 0 ∷ 6 ∷ 67 ∷ 513 ∷ 688 ∷ 817 ∷ 946 ∷ 1100 ∷ 404 ∷ 579 ∷ 708 ∷ 837 ∷ 991 ∷ 1145 ∷ 1 ∷ [])
+    × (listing 2048 mono ≡ 133 ∷ 2174 ∷ 1062008089163349296 ∷ 0 ∷ 278 ∷ 8 ∷ 1 ∷ 0 ∷ 1 ∷ 0 ∷ 65 ∷ 704 ∷ 998 ∷ 1292 ∷ 1586 ∷ 1880 ∷ 420 ∷ 714 ∷ 1008 ∷ 1302 ∷ 1596 ∷ 1890 ∷ 1 ∷ [])
+    × (listing 2048 two-programmes ≡ 327 ∷ 1530 ∷ 2274860277479908915 ∷ 0 ∷ 192 ∷ 6 ∷ 0 ∷ 1 ∷ 2 ∷ 6 ∷ 73 ∷ 754 ∷ 859 ∷ 1175 ∷ 1257 ∷ 1328 ∷ 711 ∷ 830 ∷ 1151 ∷ 1233 ∷ 1304 ∷ 1506 ∷ 0 ∷ [])
+    × (listing 2048 eight-segments ≡ 236 ∷ 605 ∷ 70318218597138012 ∷ 0 ∷ 128 ∷ 6 ∷ 0 ∷ 1 ∷ 0 ∷ 6 ∷ 73 ∷ 327 ∷ 364 ∷ 395 ∷ 426 ∷ 568 ∷ 327 ∷ 364 ∷ 395 ∷ 426 ∷ 568 ∷ 605 ∷ 0 ∷ [])
+    × (listing 2048 surround ≡ 364 ∷ 1395 ∷ 1348723599992762923 ∷ 0 ∷ 384 ∷ 8 ∷ 7 ∷ 1 ∷ 0 ∷ 0 ∷ 150 ∷ 554 ∷ 668 ∷ 893 ∷ 992 ∷ 1251 ∷ 554 ∷ 668 ∷ 893 ∷ 992 ∷ 1251 ∷ 1395 ∷ 1 ∷ [])
+    × (listing 2048 coupled-surround ≡ 353 ∷ 1272 ∷ 2141540170222237398 ∷ 0 ∷ 160 ∷ 8 ∷ 4 ∷ 1 ∷ 0 ∷ 6 ∷ 132 ∷ 665 ∷ 870 ∷ 943 ∷ 1112 ∷ 1205 ∷ 665 ∷ 870 ∷ 943 ∷ 1112 ∷ 1205 ∷ 1272 ∷ 0 ∷ [])
+    × (listing 2048 some-coupled ≡ 252 ∷ 820 ∷ 2161313733691180710 ∷ 0 ∷ 128 ∷ 8 ∷ 2 ∷ 1 ∷ 0 ∷ 1 ∷ 96 ∷ 489 ∷ 632 ∷ 744 ∷ 760 ∷ 792 ∷ 489 ∷ 632 ∷ 744 ∷ 760 ∷ 792 ∷ 820 ∷ 1 ∷ [])
+    × (listing 2048 phase-flags ≡ 191 ∷ 431 ∷ 1419739273287334406 ∷ 0 ∷ 128 ∷ 4 ∷ 2 ∷ 0 ∷ 0 ∷ 6 ∷ 67 ∷ 279 ∷ 310 ∷ 341 ∷ 369 ∷ 400 ∷ 279 ∷ 310 ∷ 341 ∷ 369 ∷ 400 ∷ 431 ∷ 0 ∷ [])
+    × (listing 2048 pause ≡ 377 ∷ 2028 ∷ 318877698429439663 ∷ 0 ∷ 256 ∷ 6 ∷ 0 ∷ 1 ∷ 0 ∷ 3 ∷ 231 ∷ 590 ∷ 970 ∷ 1439 ∷ 1712 ∷ 1788 ∷ 485 ∷ 898 ∷ 1417 ∷ 1690 ∷ 1773 ∷ 2028 ∷ 0 ∷ [])
+    × (listing 2048 joining ≡ 314 ∷ 1018 ∷ 1052683547220502673 ∷ 0 ∷ 160 ∷ 6 ∷ 2 ∷ 1 ∷ 0 ∷ 2 ∷ 96 ∷ 288 ∷ 430 ∷ 483 ∷ 540 ∷ 774 ∷ 288 ∷ 430 ∷ 483 ∷ 540 ∷ 774 ∷ 1018 ∷ 0 ∷ [])
+    × (listing 2048 quiet-coupling ≡ 327 ∷ 1099 ∷ 1389820174442769877 ∷ 0 ∷ 140 ∷ 6 ∷ 2 ∷ 0 ∷ 1 ∷ 1 ∷ 67 ∷ 240 ∷ 334 ∷ 524 ∷ 620 ∷ 783 ∷ 240 ∷ 334 ∷ 524 ∷ 620 ∷ 783 ∷ 1099 ∷ 0 ∷ [])
+    × (listing 2048 zero-width ≡ 96 ∷ 211 ∷ 699772223050309434 ∷ 0 ∷ 128 ∷ 8 ∷ 1 ∷ 0 ∷ 0 ∷ 0 ∷ 65 ∷ 161 ∷ 171 ∷ 181 ∷ 191 ∷ 201 ∷ 161 ∷ 171 ∷ 181 ∷ 191 ∷ 201 ∷ 211 ∷ 1 ∷ [])
+    × (listing 2048 to-the-end ≡ 177 ∷ 1024 ∷ 1613014222269609595 ∷ 0 ∷ 128 ∷ 2 ∷ 1 ∷ 0 ∷ 0 ∷ 0 ∷ 100 ∷ 355 ∷ 590 ∷ 611 ∷ 631 ∷ 650 ∷ 329 ∷ 590 ∷ 611 ∷ 631 ∷ 650 ∷ 693 ∷ 1 ∷ [])
+    × (listing 2048 skip-nothing ≡ 98 ∷ 400 ∷ 1590399564233235475 ∷ 0 ∷ 128 ∷ 5 ∷ 1 ∷ 0 ∷ 0 ∷ 0 ∷ 65 ∷ 200 ∷ 240 ∷ 280 ∷ 320 ∷ 360 ∷ 170 ∷ 210 ∷ 250 ∷ 290 ∷ 330 ∷ 370 ∷ 1 ∷ [])
+    × (listing 2048 addbsi-longest ≡ 99 ∷ 730 ∷ 2088455680737369499 ∷ 0 ∷ 128 ∷ 6 ∷ 1 ∷ 0 ∷ 0 ∷ 0 ∷ 583 ∷ 679 ∷ 689 ∷ 699 ∷ 710 ∷ 720 ∷ 679 ∷ 689 ∷ 699 ∷ 710 ∷ 720 ∷ 730 ∷ 1 ∷ [])
+    × (listing 2048 widest ≡ 207 ∷ 1088 ∷ 137433663604931848 ∷ 0 ∷ 138 ∷ 5 ∷ 1 ∷ 0 ∷ 1 ∷ 0 ∷ 100 ∷ 269 ∷ 458 ∷ 545 ∷ 684 ∷ 1046 ∷ 269 ∷ 458 ∷ 545 ∷ 580 ∷ 1046 ∷ 1088 ∷ 1 ∷ [])
+    × (listing 2048 other-names-1 ≡ 563 ∷ 2776 ∷ 1825383984366266164 ∷ 0 ∷ 348 ∷ 6 ∷ 0 ∷ 0 ∷ 1 ∷ 6 ∷ 147 ∷ 1544 ∷ 1604 ∷ 1712 ∷ 1949 ∷ 2596 ∷ 1544 ∷ 1604 ∷ 1712 ∷ 1949 ∷ 2596 ∷ 2776 ∷ 0 ∷ [])
+    × (listing 2048 deltas-stay ≡ 150 ∷ 1098 ∷ 1199251214092976941 ∷ 0 ∷ 138 ∷ 8 ∷ 1 ∷ 0 ∷ 1 ∷ 0 ∷ 138 ∷ 817 ∷ 850 ∷ 892 ∷ 926 ∷ 1044 ∷ 802 ∷ 835 ∷ 877 ∷ 911 ∷ 1009 ∷ 1063 ∷ 1 ∷ [])
+unfolding bitAt value bitsBefore _>>=_ turns shown except exec andThen flatten landing finish Reads-from walked roomCheck check sum unless run continue nfchans words48 words44 frameBytes slowDecay fastDecay slowGain knee floor fastGain bapBits bandEnd logAdd hearing bap logadd lowcomp snrOffset level kept threshold bapOf bandSum bandOf startOf endOf bandLevel lowAfter rises fallTo overKnee maskOf deltaOf passed deltaIn deltaSum startLeak lowered fallLeak leakStep leakAfter Listed-from table excitations pointerList deltaCode channelCode segment newDeltas slotDeltas codedDeltas deltas step group exponentSet slotExponents channelExponents exponents silent pointers allPointers widths mantissas newCurve curve fineOffset channelOffset newOffsets offsets newLeak couplingLeak channelParts parts channelFlags dynamicRange skipField allocState allSent audioBlock howMany coupledChannels joined couplingBands newCoupling couplingStrategy coordinate channelCoordinates phaseFlags couplingCoordinates rematrixing audio syncframe answered syncinfo programmeInfo alternateInfo timeCodes additionalInfo bsi header bytes plusOne checksum verdict short channelStrategies exponentStrategies bandwidth bandwidths channelEnd channelEnds
+accepted = (refl, refl, refl, refl, refl, refl, refl, refl, refl, refl, refl, refl, refl, refl, refl, refl, refl, refl)
+
+refused :
+    (listing 2048 fscod-3 ≡ 4 ∷ 40 ∷ 29579453722108996 ∷ 3 ∷ [])
+    × (listing 2048 refusal-1 ≡ 0 ∷ 0 ∷ 0 ∷ 1 ∷ [])
+    × (listing 2048 refusal-2 ≡ 1 ∷ 16 ∷ 352286885166436349 ∷ 2 ∷ [])
+    × (listing 2048 refusal-4 ≡ 4 ∷ 40 ∷ 40781722323852877 ∷ 4 ∷ [])
+    × (listing 2048 refusal-5 ≡ 5 ∷ 45 ∷ 1373352214628650087 ∷ 5 ∷ [])
+    × (listing 2048 refusal-6 ≡ 45 ∷ 163 ∷ 2287202142014331790 ∷ 6 ∷ [])
+    × (listing 2048 refusal-6-walk ≡ 45 ∷ 1019 ∷ 772336669383944041 ∷ 6 ∷ [])
+    × (listing 2048 refusal-6-coupled ≡ 91 ∷ 1023 ∷ 406237143950309278 ∷ 6 ∷ [])
+    × (listing 210 stereo ≡ 210 ∷ 1254 ∷ 1819588965046830427 ∷ 7 ∷ [])
+    × (listing 3 fscod-3 ≡ 3 ∷ 34 ∷ 1747240727870654386 ∷ 7 ∷ [])
+    × (listing 2048 refusal-8-cplstre ≡ 21 ∷ 69 ∷ 1081658256954631330 ∷ 8 ∷ [])
+    × (listing 2048 refusal-8-rematstr ≡ 26 ∷ 75 ∷ 878359410002101658 ∷ 8 ∷ [])
+    × (listing 2048 refusal-8-baie ≡ 33 ∷ 127 ∷ 2175148581457006551 ∷ 8 ∷ [])
+    × (listing 2048 refusal-8-snroffste ≡ 40 ∷ 146 ∷ 220526504281723518 ∷ 8 ∷ [])
+    × (listing 2048 refusal-9 ≡ 25 ∷ 79 ∷ 124803676312919335 ∷ 9 ∷ [])
+    × (listing 2048 refusal-10 ≡ 25 ∷ 79 ∷ 832235487675882048 ∷ 10 ∷ [])
+    × (listing 2048 refusal-11 ≡ 24 ∷ 78 ∷ 1425268850680990827 ∷ 11 ∷ [])
+    × (listing 2048 refusal-12 ≡ 23 ∷ 72 ∷ 1271932964578572975 ∷ 12 ∷ [])
+    × (listing 2048 refusal-13 ≡ 40 ∷ 101 ∷ 234763683109086067 ∷ 13 ∷ [])
+    × (listing 2048 refusal-14 ≡ 46 ∷ 120 ∷ 521513078694644625 ∷ 14 ∷ [])
+    × (listing 2048 refusal-15 ≡ 35 ∷ 141 ∷ 1600166967492640722 ∷ 15 ∷ [])
+    × (listing 2048 refusal-16 ≡ 26 ∷ 89 ∷ 1814820017003890421 ∷ 16 ∷ [])
+    × (listing 2048 refusal-17 ≡ 26 ∷ 89 ∷ 848520862932588235 ∷ 17 ∷ [])
+    × (listing 2048 refusal-18 ≡ 44 ∷ 155 ∷ 1939675474280980748 ∷ 18 ∷ [])
+    × (listing 2048 refusal-19 ≡ 44 ∷ 155 ∷ 1757649603618528351 ∷ 19 ∷ [])
+    × (listing 2048 refusal-20 ≡ 103 ∷ 398 ∷ 622370867021432412 ∷ 20 ∷ [])
+unfolding bitAt value bitsBefore _>>=_ turns shown except exec andThen flatten landing finish Reads-from walked roomCheck check sum unless run continue nfchans words48 words44 frameBytes slowDecay fastDecay slowGain knee floor fastGain bapBits bandEnd logAdd hearing bap logadd lowcomp snrOffset level kept threshold bapOf bandSum bandOf startOf endOf bandLevel lowAfter rises fallTo overKnee maskOf deltaOf passed deltaIn deltaSum startLeak lowered fallLeak leakStep leakAfter Listed-from table excitations pointerList deltaCode channelCode segment newDeltas slotDeltas codedDeltas deltas step group exponentSet slotExponents channelExponents exponents silent pointers allPointers widths mantissas newCurve curve fineOffset channelOffset newOffsets offsets newLeak couplingLeak channelParts parts channelFlags dynamicRange skipField allocState allSent audioBlock howMany coupledChannels joined couplingBands newCoupling couplingStrategy coordinate channelCoordinates phaseFlags couplingCoordinates rematrixing audio syncframe answered syncinfo programmeInfo alternateInfo timeCodes additionalInfo bsi header bytes plusOne checksum verdict short channelStrategies exponentStrategies bandwidth bandwidths channelEnd channelEnds
+refused = (refl, refl, refl, refl, refl, refl, refl, refl, refl, refl, refl, refl, refl, refl, refl, refl, refl, refl, refl, refl, refl, refl, refl, refl, refl, refl)

@@ -1,0 +1,94 @@
+-- audblk (4.3.3): the sections of a block in the order of the syntax table.
+use mathlib.Core.Bool.{Bool, true, false, _&&_, _||_, not, cond}
+use mathlib.Core.List.{List, [], _∷_}
+use Prim.Native.Nat.{ℕ, _+_, _*_}
+use lib.Dec.{eqb}
+use lib.IntN.{ℤ}
+use lib.ListN.{set}
+use Rattle.syntax.specs.declared.Role.the-variants.{DynrngExists, Dynrng, Skiple, Skipl, Skipfld}
+use Rattle.syntax.specs.Grammar.{Grammar, done, _>>=_, _>>_, nth, oneRoled, take, flag, note, pass, position, when, each}
+use Rattle.syntax.specs.Names as Name
+use Rattle.tables.specs.Tables.{nfchans}
+use Rattle.blocks.specs.declared.AllocState.{AllocState}
+use Rattle.blocks.specs.Delta.{deltas}
+use Rattle.blocks.specs.Exponents.{Exponents, exponents}
+use Rattle.blocks.specs.Mantissas.{mantissas}
+use Rattle.blocks.specs.Parameters.{curve, offsets, couplingLeak}
+use Rattle.ac3.specs.Coupling.{couplingStrategy, couplingCoordinates, rematrixing}
+use Rattle.ac3.specs.Header.{programmes}
+use Rattle.ac3.specs.Strategies.{exponentStrategies, bandwidths, channelEnds}
+use Rattle.ac3.specs.declared.Header.{Header}
+use Rattle.ac3.specs.declared.State.{State}
+use Rattle.ac3.specs.declared.Tally.{Tally}
+
+-- what a block takes from the blocks before it, and leaves to the next one
+pub record Carry : Type 0 where
+  pub state : State
+  pub exps : List (List ℤ)
+  pub tally : Tally
+
+-- blksw, and dithflag: a bit for each channel
+unfoldable pub channelFlags : (blk name nfchans : ℕ) → Grammar (Unit {0})
+channelFlags blk name nfchans = each nfchans (λ ch. note (nth blk name ch) 1)
+
+-- dynamic range: the second programme's names stand two further on
+unfoldable pub dynamicRange : (blk p : ℕ) → Grammar (Unit {0})
+dynamicRange blk p = do
+  dynrnge ← flag (oneRoled blk (DynrngExists p) (Name.dynrnge + 2 * p))
+  when dynrnge (note (oneRoled blk (Dynrng p) (Name.dynrng + 2 * p)) 8)
+
+unfoldable pub skipField : ℕ → Grammar (Unit {0})
+skipField blk = do
+  skiple ← flag (oneRoled blk Skiple Name.skiple)
+  when skiple do
+    skipl ← take (oneRoled blk Skipl Name.skipl) 9
+    pass (oneRoled blk Skipfld Name.skipfld) (8 * skipl)
+
+-- bit allocation information, as far as the skip field
+unfoldable pub allocState : (blk nfchans : ℕ) (cplinu lfeon : Bool) → AllocState → Grammar AllocState
+allocState blk nfchans cplinu lfeon old = do
+  curve ← curve blk (old .curve)
+  offsets ← offsets blk nfchans cplinu lfeon (old .offsets)
+  leak ← couplingLeak blk cplinu (old .leak)
+  deltas ← deltas blk nfchans cplinu (old .deltas)
+  done (record { curve = curve; offsets = offsets; leak = leak; deltas = deltas })
+
+-- every coupled channel sent coordinates
+unfoldable pub allSent : (chincpl cplcoe : List Bool) → Bool
+allSent [] sent = true
+allSent (c ∷ cs) [] = true
+allSent (c ∷ cs) (s ∷ ss) = (not c || s) && allSent cs ss
+
+-- the first block with coupling decides whether coordinates were sent
+abbrev pub counted : (blk start mantissas : ℕ) (cplinu sent : Bool) → Tally → Tally
+counted blk start mantissas cplinu sent t =
+    record {
+      coupled = cond cplinu (t .coupled + 1) (t .coupled);
+      coordinates = cond (cplinu && eqb (t .coupled) 0) sent (t .coordinates);
+      starts = set (t .starts) blk start;
+      mantissas = set (t .mantissas) blk mantissas;
+    }
+
+unfoldable pub audioBlock : Header → (blk : ℕ) → Carry → Grammar Carry
+audioBlock h blk before = do
+  let old = before .state
+  let channels = nfchans (h .acmod)
+  start ← position
+  channelFlags blk Name.blksw channels
+  channelFlags blk Name.dithflag channels
+  each (programmes (h .acmod)) (dynamicRange blk)
+  c ← couplingStrategy blk (h .acmod) channels (old .coupling)
+  cplcoe ← couplingCoordinates blk channels c
+  rematrixing blk (h .acmod) c
+  strategies ← exponentStrategies blk channels (c .cplinu) (h .lfeon)
+  widths ← bandwidths blk channels c (strategies .chexpstr) (old .bandwidths)
+  ends ← channelEnds channels c widths
+  e ← exponents blk channels (h .lfeon) c strategies ends (record { cover = old .cover; exps = before .exps })
+  alloc ← allocState blk channels (c .cplinu) (h .lfeon) (old .alloc)
+  skipField blk
+  mantissas ← mantissas blk (h .fscod) channels (h .lfeon) c ends alloc (e .exps)
+  done (record {
+    state = record { coupling = c; bandwidths = widths; cover = e .cover; alloc = alloc };
+    exps = e .exps;
+    tally = counted blk start mantissas (c .cplinu) (allSent (c .chincpl) cplcoe) (before .tally);
+  })

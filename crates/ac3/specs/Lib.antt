@@ -1,0 +1,7 @@
+pub mod Header
+pub mod Coupling
+pub mod Strategies
+pub mod AudioBlock
+pub mod Frame
+pub mod Marked
+pub mod Listing

@@ -1,0 +1,42 @@
+-- Request E6, as a statement about the grammar itself: exactly the editable names are read as values that steer nothing,
+-- and exactly the spans as spans.
+use mathlib.Core.Bool.{Bool, true, false, not, _||_}
+use mathlib.Core.List.{List, [], _∷_}
+use Prim.Native.Nat.{ℕ}
+use lib.Dec.{T, eqb}
+use Rattle.syntax.specs.declared.Item.{Item}
+use Rattle.syntax.specs.Grammar.{Grammar, done, refuse, field, free, span, walk, frame, here}
+use Rattle.syntax.specs.Run.{Kind, steering, unsteering, spanning, Row}
+use Rattle.syntax.specs.Rows.{Holds}
+use Rattle.syntax.specs.Names.{editable, spans}
+
+-- is the name in the list?
+abbrev pub among : ℕ → List ℕ → Bool
+among n [] = false
+among n (m ∷ ms) = eqb n m || among n ms
+
+abbrev pub kindFits : Kind → ℕ → Bool
+kindFits steering name = not (among name editable || among name spans)
+kindFits unsteering name = among name editable
+kindFits spanning name = among name spans
+
+-- each of these rows is of its name's kind
+abbrev pub KindsFit : List Row → Type 0
+KindsFit [] = Unit {0}
+KindsFit (r ∷ rs) = T (kindFits (r .kind) (r .item .name)) × KindsFit rs
+
+-- every field that the grammar can meet is of its name's kind
+pub data Marked {A : Type 0} : Grammar A → Type 0 where
+  m-done : {a : A} → Marked (done a)
+  m-refuse : {n : ℕ} → Marked (refuse n)
+  m-field : {i : Item} {w : ℕ} {k : ℕ → Grammar A} → T (kindFits steering (i .name)) → ((v : ℕ) → Marked (k v)) → Marked (field i w k)
+  m-free : {i : Item} {w : ℕ} {k : Grammar A} → T (kindFits unsteering (i .name)) → Marked k → Marked (free i w k)
+  m-span : {i : Item} {w : ℕ} {k : Grammar A} → T (kindFits spanning (i .name)) → Marked k → Marked (span i w k)
+  m-walk : {i : Item} {ws : List ℕ} {k : Grammar A} → T (kindFits spanning (i .name)) → Marked k → Marked (walk i ws k)
+  m-frame : {x n : ℕ} {k : Grammar A} → Marked k → Marked (frame x n k)
+  m-here : {k : ℕ → Grammar A} → ((at : ℕ) → Marked (k at)) → Marked (here k)
+
+-- bit p lies in no row of an editable name, and in no span
+abbrev pub OutsideEditable : List Row → ℕ → Type 0
+OutsideEditable [] p = Unit {0}
+OutsideEditable (r ∷ rs) p = (T (among (r .item .name) editable || among (r .item .name) spans) → ¬ Holds r p) × OutsideEditable rs p

@@ -1,0 +1,6 @@
+pub mod Slots
+pub mod Exponents
+pub mod Parameters
+pub mod Delta
+pub mod Mantissas
+pub mod Sound

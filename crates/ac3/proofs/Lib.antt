@@ -1,2 +1,6 @@
 pub mod Demand3
+pub mod Values
+pub mod Marked
+pub mod Editing
+pub mod Example
 pub mod Tried

@@ -4,4 +4,5 @@ pub mod Strategies
 pub mod AudioBlock
 pub mod Frame
 pub mod Marked
+pub mod Values
 pub mod Listing

@@ -1,0 +1,64 @@
+-- Small cases of the sections of a block, by computation: what document 01 names as slips comes out otherwise here. Assumes nothing.
+use mathlib.Core.Bool.{true, false}
+use mathlib.Core.List.{List, [], _∷_, map}
+use mathlib.Core.Path.{_≡_, refl}
+use Prim.Native.Nat.{ℕ}
+use lib.IntN.{pos}
+use lib.ListN.{replicate}
+use Rattle.bits.specs.Bits.{bitAt, value}
+use Rattle.syntax.specs.Grammar.{Grammar, _>>=_, _>>_, turns, framed}
+use Rattle.syntax.specs.Run.{Spot, End, reached, refused, run, parse, unless, roomCheck, check, sum}
+use Rattle.blocks.specs.Delta.{noDeltas, deltas, codedDeltas, channelCode, deltaCode, slotDeltas, newDeltas, segment}
+use Rattle.blocks.specs.Exponents.{exponentSet, group, step}
+use Rattle.blocks.specs.Mantissas.{widths, noneOpen}
+use Rattle.blocks.specs.Slots.{CPL, LFE, part, channelParts, parts}
+use Rattle.blocks.specs.declared.Coupling.{Coupling}
+use Rattle.blocks.specs.declared.Deltas.{Deltas}
+use Rattle.tables.specs.Tables.{bapBits}
+
+-- how a section ends on some bytes, with room enough
+ending : {A : Type 0} → Grammar A → List ℕ → End A
+ending g s = parse (framed 1 4 >> g) s 100 .end
+
+-- channels 1 and 2 of three are coupled from bin 97 up to bin 108
+coupling : Coupling
+coupling = record { cplinu = true; chincpl = false ∷ true ∷ true ∷ false ∷ false ∷ []; phsflginu = false; cplbegf = 5; cplendf = 3; ncplbnd = 1 }
+
+-- the coupling range ends past its last bin and comes directly after the first coupled channel; LFE is last
+slots-in-order : parts 3 true coupling (76 ∷ 97 ∷ 97 ∷ 0 ∷ 0 ∷ [])
+    ≡ part 0 0 76 ∷ part 1 0 97 ∷ part CPL 97 109 ∷ part 2 0 97 ∷ part LFE 0 7 ∷ []
+unfolding parts channelParts coupling
+slots-in-order = refl
+
+-- a segment in force for channel 0
+one-segment : List Deltas
+one-segment = record { count = 1; segments = 3 ∷ 2 ∷ 7 ∷ replicate 21 0 } ∷ replicate 6 noDeltas
+
+-- deltbaie 0 keeps the segments in a later block, and clears them in block 0
+segments-stay : ending (deltas 1 1 false one-segment) (replicate 4 0) ≡ reached one-segment
+unfolding ending deltas _>>=_ run unless roomCheck check value bitAt
+segments-stay = refl
+
+no-segments-at-first : ending (deltas 0 1 false one-segment) (replicate 4 0) ≡ reached (replicate 7 noDeltas)
+unfolding ending deltas _>>=_ run unless roomCheck check value bitAt
+no-segments-at-first = refl
+
+-- deltbaie 1, deltbae 2 (bits 110..): cleared; deltbae 3: refused; deltbae 0: refused in block 0, kept later
+codes : map (λ byte. ending (deltas 1 1 false one-segment) (byte ∷ replicate 3 0)) (0xC0 ∷ 0xE0 ∷ 0x80 ∷ [])
+    ≡ reached (replicate 7 noDeltas) ∷ refused 19 ∷ reached one-segment ∷ []
+unfolding ending deltas codedDeltas channelCode deltaCode slotDeltas one-segment turns _>>=_ run unless roomCheck check value bitAt
+codes = refl
+
+reuse-in-block-0 : ending (deltas 0 1 false one-segment) (0x80 ∷ replicate 3 0) ≡ refused 18
+unfolding ending deltas codedDeltas channelCode deltaCode slotDeltas turns _>>=_ run unless roomCheck check value bitAt
+reuse-in-block-0 = refl
+
+-- the coupling start value 13, doubled to 26, is not judged: a group of -2 0 0 makes 24 24 24 (group 2 * 5 + 2 = 12)
+doubled-start : ending (exponentSet 0 CPL 1 0 3) (0xD1 ∷ 0x80 ∷ 0 ∷ 0 ∷ []) ≡ reached (pos 24 ∷ pos 24 ∷ pos 24 ∷ replicate 253 (pos 0))
+unfolding ending exponentSet group step turns _>>=_ run unless roomCheck check value bitAt
+doubled-start = refl
+
+-- groups of mantissas go on from one channel to the next: three of bap 1 share five bits wherever they stand
+one-group : sum (widths noneOpen (1 ∷ 0 ∷ 1 ∷ 3 ∷ 1 ∷ [])) ≡ 8
+unfolding sum widths bapBits
+one-group = refl

@@ -1,14 +1,14 @@
--- Every field of the AC-3 grammar is of its name's kind. Assumes nothing.
+-- Every field of the AC-3 grammar is of its name's kind, and every refusal is numbered. Assumes nothing.
 use mathlib.Core.Bool.{Bool, true, false, cond}
 use mathlib.Core.List.{List, [], _∷_}
 use Prim.Native.Nat.{ℕ, zero, suc, _+_, _-_, _≤_, _<_}
 use native.Mathlib.Omega.{arith}
-use lib.Dec.{T, eqb}
+use lib.Dec.{T, eqb, ltb}
 use lib.IntN.{ℤ}
 use Rattle.syntax.specs.declared.Item.{Item}
 use Rattle.syntax.specs.Grammar.{Grammar, done, refuse, field, free, span, walk, frame, here, _>>=_, _>>_, refuseIf, when, readIf, turns, for, each}
 use Rattle.syntax.specs.Names as Name
-use Rattle.syntax.specs.Run.{steering, Check, clear, stop, Spot, Result, unless, run, rowsOf}
+use Rattle.syntax.specs.Run.{steering, past, judged, Check, clear, stop, Spot, Result, unless, roomCheck, check, run, rowsOf, parse}
 use Rattle.blocks.specs.Delta.{deltaCode, channelCode, segment, newDeltas, slotDeltas, codedDeltas, deltas}
 use Rattle.blocks.specs.Exponents.{Unpacked, Exponents, step, group, firstName, groupName, exponentSet, slotExponents, channelExponents, exponents}
 use Rattle.blocks.specs.Mantissas.{mantissas}
@@ -25,7 +25,7 @@ use Rattle.ac3.specs.AudioBlock.{Carry, channelFlags, dynamicRange, skip
 use Rattle.ac3.specs.Coupling.{coupledChannels, joined, couplingBands, newCoupling, couplingStrategy, coordinate, channelCoordinates, phaseFlags, couplingCoordinates, rematrixing}
 use Rattle.ac3.specs.Frame.{audio, syncframe}
 use Rattle.ac3.specs.Header.{syncinfo, programmes, programmeInfo, alternateInfo, timeCodes, additionalInfo, bsi, header}
-use Rattle.ac3.specs.Marked.{kindFits, KindsFit, Marked, m-done, m-refuse, m-field, m-free, m-span, m-walk, m-frame, m-here}
+use Rattle.ac3.specs.Marked.{kindFits, KindsFit, numberFits, StopFits, EndFits, Marked, m-done, m-refuse, m-field, m-free, m-span, m-walk, m-frame, m-here}
 use Rattle.ac3.specs.Strategies.{channelStrategies, exponentStrategies, bandwidth, bandwidths, channelEnd, channelEnds}
 use Rattle.ac3.specs.declared.Bandwidths.{Bandwidths}
 use Rattle.ac3.specs.declared.Header.{Header}
@@ -34,17 +34,17 @@ module _ {A B : Type 0} where
   m-bind : {g : Grammar A} {f : A → Grammar B} → Marked g → ((a : A) → Marked (f a)) → Marked (g >>= f)
   unfolding _>>=_
   m-bind (m-done {a = a}) h = h a
-  m-bind m-refuse h = m-refuse
+  m-bind (m-refuse t) h = m-refuse t
   m-bind (m-field t k) h = m-field t (λ v. m-bind (k v) h)
   m-bind (m-free t k) h = m-free t (m-bind k h)
   m-bind (m-span t k) h = m-span t (m-bind k h)
   m-bind (m-walk t k) h = m-walk t (m-bind k h)
-  m-bind (m-frame k) h = m-frame (m-bind k h)
+  m-bind (m-frame t k) h = m-frame t (m-bind k h)
   m-bind (m-here k) h = m-here (λ at. m-bind (k at) h)
 
-m-if : (b : Bool) (n : ℕ) → Marked (refuseIf b n)
-m-if true n = m-refuse
-m-if false n = m-done
+m-if : (b : Bool) (n : ℕ) → T (numberFits n) → Marked (refuseIf b n)
+m-if true n t = m-refuse t
+m-if false n t = m-done
 
 m-when : (b : Bool) {g : Grammar (Unit {0})} → Marked g → Marked (when b g)
 m-when true h = h
@@ -219,13 +219,47 @@ kinds-unless (stop n bit) p r h = tt
 kinds-run : {A : Type 0} {g : Grammar A} → Marked g → (s : List ℕ) (p : Spot) → KindsFit ((run g s p) .rows)
 unfolding run
 kinds-run m-done s p = tt
-kinds-run m-refuse s p = tt
+kinds-run (m-refuse t) s p = tt
 kinds-run (m-field t k) s p = kinds-unless _ p _ (t, kinds-run (k _) s _)
 kinds-run (m-free t k) s p = kinds-unless _ p _ (t, kinds-run k s _)
 kinds-run (m-span t k) s p = kinds-unless _ p _ (t, kinds-run k s _)
 kinds-run (m-walk t k) s p = kinds-unless _ p _ (t, kinds-run k s _)
-kinds-run (m-frame k) s p = kinds-unless _ p _ (kinds-run k s _)
+kinds-run (m-frame t k) s p = kinds-unless _ p _ (kinds-run k s _)
 kinds-run (m-here k) s p = kinds-run (k _) s p
+
+ends-unless : {A : Type 0} (c : Check) (p : Spot) (r : Result A) → StopFits c → EndFits (r .end) → EndFits ((unless c p (λ _. r)) .end)
+unfolding unless
+ends-unless clear p r t h = h
+ends-unless (stop why bit) p r t h = t
+
+ends-check : (i : Item) (limit left whenFull : ℕ) (ws : List ℕ) (at : ℕ) → StopFits (check i limit left whenFull ws at)
+unfolding check roomCheck
+ends-check i limit zero whenFull [] at = tt
+ends-check i limit (suc left) whenFull [] at = tt
+ends-check i limit left whenFull (w ∷ ws) at = go (ltb limit (at + w)) (ends-check i limit left whenFull ws (at + w))
+  where
+    go : (b : Bool) → StopFits (check i limit left whenFull ws (at + w)) → StopFits (cond b (stop (past i) at) (check i limit left whenFull ws (at + w)))
+    go true later = tt
+    go false later = later
+
+ends-frame : (b : Bool) (x bit : ℕ) → T (numberFits x) → StopFits (cond b (stop (judged x) bit) clear)
+ends-frame true x bit t = t
+ends-frame false x bit t = tt
+
+ends-run : {A : Type 0} {g : Grammar A} → Marked g → (s : List ℕ) (p : Spot) → EndFits ((run g s p) .end)
+unfolding run
+ends-run m-done s p = tt
+ends-run (m-refuse t) s p = t
+ends-run (m-field t k) s p = ends-unless _ p _ (ends-check _ _ _ _ _ _) (ends-run (k _) s _)
+ends-run (m-free t k) s p = ends-unless _ p _ (ends-check _ _ _ _ _ _) (ends-run k s _)
+ends-run (m-span t k) s p = ends-unless _ p _ (ends-check _ _ _ _ _ _) (ends-run k s _)
+ends-run (m-walk t k) s p = ends-unless _ p _ (ends-check _ _ _ _ _ _) (ends-run k s _)
+ends-run (m-frame {x = x} {n = n} t k) s p = ends-unless _ p _ (ends-frame (ltb (p .size) n) x (p .at) t) (ends-run k s _)
+ends-run (m-here k) s p = ends-run (k _) s p
+
+-- a run is accepted, or refused with one of the twenty numbers
+pub ends-marked : (s : List ℕ) (room : ℕ) → EndFits (parse syncframe s room .end)
+ends-marked s room = ends-run marked-frame s _
 
 -- exactly the editable names steer nothing
 pub rows-marked : (s : List ℕ) (room : ℕ) → KindsFit (rowsOf syncframe s room)

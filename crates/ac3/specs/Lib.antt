@@ -5,4 +5,5 @@ pub mod AudioBlock
 pub mod Frame
 pub mod Marked
 pub mod Values
+pub mod Promise
 pub mod Listing

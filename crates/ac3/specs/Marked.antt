@@ -1,12 +1,12 @@
--- Request E6, as a statement about the grammar itself: exactly the editable names are read as values that steer nothing,
--- and exactly the spans as spans.
-use mathlib.Core.Bool.{Bool, true, false, not, _||_}
+-- What can be said of a grammar by looking through it: exactly the editable names (request E6) are read as values that steer nothing,
+-- exactly the spans as spans, and every refusal has one of the twenty numbers.
+use mathlib.Core.Bool.{Bool, true, false, not, _&&_, _||_}
 use mathlib.Core.List.{List, [], _∷_}
 use Prim.Native.Nat.{ℕ}
-use lib.Dec.{T, eqb}
+use lib.Dec.{T, eqb, leb}
 use Rattle.syntax.specs.declared.Item.{Item}
 use Rattle.syntax.specs.Grammar.{Grammar, done, refuse, field, free, span, walk, frame, here}
-use Rattle.syntax.specs.Run.{Kind, steering, unsteering, spanning, Row}
+use Rattle.syntax.specs.Run.{Kind, steering, unsteering, spanning, Row, number, Check, clear, stop, End, reached, refused}
 use Rattle.syntax.specs.Rows.{Holds}
 use Rattle.syntax.specs.Names.{editable, spans}
 
@@ -25,15 +25,27 @@ abbrev pub KindsFit : List Row → Type 0
 KindsFit [] = Unit {0}
 KindsFit (r ∷ rs) = T (kindFits (r .kind) (r .item .name)) × KindsFit rs
 
--- every field that the grammar can meet is of its name's kind
+abbrev pub numberFits : ℕ → Bool
+numberFits n = leb 1 n && leb n 20
+
+-- a refusal, if it is one, is numbered
+abbrev pub StopFits : Check → Type 0
+StopFits clear = Unit {0}
+StopFits (stop why bit) = T (numberFits (number why))
+
+abbrev pub EndFits : {A : Type 0} → End A → Type 0
+EndFits (reached a) = Unit {0}
+EndFits (refused n) = T (numberFits n)
+
+-- every field that the grammar can meet is of its name's kind, and every refusal is numbered
 pub data Marked {A : Type 0} : Grammar A → Type 0 where
   m-done : {a : A} → Marked (done a)
-  m-refuse : {n : ℕ} → Marked (refuse n)
+  m-refuse : {n : ℕ} → T (numberFits n) → Marked (refuse n)
   m-field : {i : Item} {w : ℕ} {k : ℕ → Grammar A} → T (kindFits steering (i .name)) → ((v : ℕ) → Marked (k v)) → Marked (field i w k)
   m-free : {i : Item} {w : ℕ} {k : Grammar A} → T (kindFits unsteering (i .name)) → Marked k → Marked (free i w k)
   m-span : {i : Item} {w : ℕ} {k : Grammar A} → T (kindFits spanning (i .name)) → Marked k → Marked (span i w k)
   m-walk : {i : Item} {ws : List ℕ} {k : Grammar A} → T (kindFits spanning (i .name)) → Marked k → Marked (walk i ws k)
-  m-frame : {x n : ℕ} {k : Grammar A} → Marked k → Marked (frame x n k)
+  m-frame : {x n : ℕ} {k : Grammar A} → T (numberFits x) → Marked k → Marked (frame x n k)
   m-here : {k : ℕ → Grammar A} → ((at : ℕ) → Marked (k at)) → Marked (here k)
 
 -- bit p lies in no row of an editable name, and in no span

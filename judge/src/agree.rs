@@ -1,0 +1,223 @@
+//! The checks made on every input: the cut copy against the published parser, the rows against
+//! the table of names, and the room rule in the cursor against the rule derived from the run with
+//! ample room. A disagreement stops the program and shows the input.
+
+use crate::ac3;
+use crate::cut::{answer, Answer, MANY_ROWS};
+use crate::error::Error;
+use crate::hex;
+use crate::names::{self, role_numbers, ROW};
+use crate::syntax::Field;
+
+/// An input's answer with ample room, and the rows written there.
+pub struct Ample {
+    pub answer: Answer,
+    pub rows: Vec<i32>,
+}
+
+/// One call with given room, agreed upon.
+pub struct Call {
+    pub ample: Ample,
+    pub answer: Answer,
+    /// Every number of the room after the call.
+    pub room: Vec<i32>,
+}
+
+/// Number `i` of the room before a call.
+pub fn untouched(i: usize) -> i32 {
+    1_000_000 + i as i32
+}
+
+pub fn fresh_room(numbers: usize) -> Vec<i32> {
+    (0..numbers).map(untouched).collect()
+}
+
+/// Holds the room that is ample for every input.
+pub struct Judge {
+    room: Vec<i32>,
+}
+
+impl Default for Judge {
+    fn default() -> Self {
+        Judge {
+            room: vec![0; MANY_ROWS * ROW],
+        }
+    }
+}
+
+impl Judge {
+    /// The answer with ample room; stops if the published parser says otherwise.
+    pub fn ample(&mut self, capture: &[u8], place: usize) -> Ample {
+        let got = answer(capture, place, &mut self.room);
+        let rows = self.room[..got.rows * ROW].to_vec();
+        let ample = Ample { answer: got, rows };
+        if let Err(why) = agrees_with_published(&ample, capture.get(place..).unwrap_or(&[])) {
+            panic!("{why}\nplace {place} of {}", hex::of(capture));
+        }
+        ample
+    }
+
+    /// The answer with room for `numbers` numbers, or with room that just suffices and `left_over`
+    /// numbers; stops if it is not what the answer with ample room entails.
+    pub fn call(&mut self, capture: &[u8], place: usize, room: Room) -> Call {
+        let ample = self.ample(capture, place);
+        let numbers = match room {
+            Room::Numbers(n) => n,
+            Room::Sufficient { left_over } => ROW * ample.answer.rows + left_over,
+        };
+        let mut room = fresh_room(numbers);
+        let answer = answer(capture, place, &mut room);
+        if let Err(why) = entailed(&ample, &answer, &room) {
+            panic!(
+                "{why}\n{numbers} numbers, place {place} of {}",
+                hex::of(capture)
+            );
+        }
+        Call {
+            ample,
+            answer,
+            room,
+        }
+    }
+}
+
+#[derive(Clone, Copy)]
+pub enum Room {
+    Numbers(usize),
+    Sufficient { left_over: usize },
+}
+
+fn row(f: &Field) -> [i32; ROW] {
+    let (role, programme) = role_numbers(f.role);
+    [
+        names::number(f.name),
+        role,
+        programme,
+        f.block.into(),
+        f.index.into(),
+        f.pos as i32,
+        f.width as i32,
+        f.value as i32,
+    ]
+}
+
+fn same<T: PartialEq + std::fmt::Debug>(what: &str, ours: T, published: T) -> Result<(), String> {
+    if ours == published {
+        Ok(())
+    } else {
+        Err(format!("{what}: {ours:?}, published {published:?}"))
+    }
+}
+
+fn agrees_with_published(ample: &Ample, data: &[u8]) -> Result<(), String> {
+    let Ample { answer: got, rows } = ample;
+    let mut end = 0;
+    for row in rows.chunks(ROW) {
+        if !names::fits(row) || row[5] != end {
+            return Err(format!("row {row:?} at bit {end}"));
+        }
+        end = row[5] + row[6];
+    }
+    match (&got.verdict, ac3::parse(data)) {
+        (Ok(s), Ok(f)) => {
+            let published: Vec<i32> = f.fields[..got.rows].iter().flat_map(row).collect();
+            same("rows", rows, &published)?;
+            let next = &f.fields[got.rows];
+            same(
+                "the field after them",
+                (s.audio_end, "auxbits"),
+                (next.pos, next.name),
+            )?;
+            same("the bit", got.bit, f.audio_end)?;
+            let ours = (s.bytes, s.audio_end, s.bsid, s.acmod, s.lfeon, s.fscod);
+            let theirs = (f.bytes, f.audio_end, f.bsid, f.acmod, f.lfeon, f.fscod);
+            same("summary", ours, theirs)?;
+            same("row count", s.rows, rows.len() / ROW)?;
+            same("blocks with coupling", s.cpl_blocks, f.cpl_blocks)?;
+            same("block starts", &s.block_starts[..], &f.block_starts)?;
+            same(
+                "mantissa starts",
+                &s.mantissa_starts[..],
+                &f.mantissa_starts,
+            )?;
+            same(
+                "coordinates sent",
+                s.coordinates_sent,
+                coordinates_sent(rows),
+            )
+        }
+        (Ok(s), Err(Error::Invalid(text))) => {
+            // Only the tail, which is left behind, may refuse what the cut copy accepts.
+            let tail = text.starts_with("audio data ends at bit") || text.starts_with("auxdatal");
+            if !tail {
+                return Err(format!("accepted, published: {text}"));
+            }
+            same(
+                "coordinates sent",
+                s.coordinates_sent,
+                coordinates_sent(rows),
+            )
+        }
+        (Err(no), Err(e @ (Error::Invalid(_) | Error::Truncated(_)))) => {
+            same(
+                "past the frame",
+                no.number == 6,
+                matches!(e, Error::Truncated(_)),
+            )?;
+            let (Error::Invalid(text) | Error::Truncated(text)) = e else {
+                unreachable!()
+            };
+            same("refusal", &no.text, &text)?;
+            if no.number == 0 {
+                return Err(format!("document 01: cannot happen: {text}"));
+            }
+            // A refusal stands where the last row ends, but for a mantissa that does not fit.
+            if got.bit as i32 != end && !(no.number == 6 && text.starts_with("mantissa ")) {
+                return Err(format!("{text}: bit {} after rows to {end}", got.bit));
+            }
+            Ok(())
+        }
+        (ours, published) => Err(format!("{ours:?}, published {published:?}")),
+    }
+}
+
+/// Document 01's "coordinates sent", read off the rows of an accepted frame.
+fn coordinates_sent(rows: &[i32]) -> bool {
+    let (cplinu, cplcoe) = (names::number("cplinu"), names::number("cplcoe"));
+    let first_coupled = rows
+        .chunks(ROW)
+        .find(|row| row[0] == cplinu && row[7] == 1)
+        .map(|row| row[3]);
+    rows.chunks(ROW)
+        .filter(|row| row[0] == cplcoe && Some(row[3]) == first_coupled)
+        .all(|row| row[7] == 1)
+}
+
+/// The answer with this room is the one with ample room, or refusal 7 where the rows end.
+fn entailed(ample: &Ample, answer: &Answer, room: &[i32]) -> Result<(), String> {
+    let limit = room.len() / ROW;
+    let expected = if ample.answer.rows <= limit {
+        if answer != &ample.answer {
+            return Err(format!("{answer:?}, with ample room {:?}", ample.answer));
+        }
+        (ample.answer.number(), ample.answer.rows, ample.answer.bit)
+    } else {
+        let missing = &ample.rows[ROW * limit..][..ROW];
+        let walked = missing[0] == names::number("mantissas");
+        let bit = missing[5] + if walked { missing[6] } else { 0 };
+        (7, limit, bit as usize)
+    };
+    same(
+        "the room rule",
+        (answer.number(), answer.rows, answer.bit),
+        expected,
+    )?;
+    let written = ROW * answer.rows;
+    if room[..written] != ample.rows[..written] {
+        return Err("rows differ from those with ample room".into());
+    }
+    match (written..room.len()).find(|&i| room[i] != untouched(i)) {
+        Some(i) => Err(format!("number {i} of the room was touched")),
+        None => Ok(()),
+    }
+}

@@ -1,0 +1,5 @@
+//! Prints corners.txt.
+
+fn main() {
+    print!("{}", judge::corners::text());
+}

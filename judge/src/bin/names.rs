@@ -1,0 +1,5 @@
+//! Prints the table of docs/NAMES.md.
+
+fn main() {
+    print!("{}", judge::names::table());
+}

@@ -1,0 +1,239 @@
+//! What document 01 asks of a parse, answered by the published Rust cut at `audio_end`.
+//!
+//! Added to the Rust: numbers for names, roles and refusals, and the room rule (refusal 7).
+//! `ac3` and `blocks` here are copies of the published files; to see every change:
+//! `diff -u ddpmeta/ac3.rs src/cut/ac3.rs` and the same for `blocks.rs`.
+
+pub mod ac3;
+pub mod blocks;
+
+use crate::bits;
+use crate::names::{number, role_numbers, ROW};
+use crate::syntax::Role;
+
+/// A refusal: document 01's number and the Rust's own text, kept to compare with the published
+/// parser. Number 0 marks the sites that document 01 says cannot be reached.
+#[derive(Clone, Debug, PartialEq, Eq)]
+pub struct No {
+    pub number: u32,
+    pub text: String,
+}
+
+pub type Result<T> = std::result::Result<T, No>;
+
+pub fn no<T>(number: u32, text: impl Into<String>) -> Result<T> {
+    Err(No {
+        number,
+        text: text.into(),
+    })
+}
+
+/// An accepted frame's summary, in document 01's order.
+#[derive(Clone, Debug, PartialEq, Eq)]
+pub struct Summary {
+    pub rows: usize,
+    pub bytes: usize,
+    pub audio_end: usize,
+    pub bsid: u8,
+    pub acmod: u8,
+    pub lfeon: bool,
+    pub fscod: u8,
+    pub cpl_blocks: usize,
+    pub block_starts: [usize; 6],
+    pub mantissa_starts: [usize; 6],
+    pub coordinates_sent: bool,
+}
+
+/// How many numbers a summary is.
+pub const SUMMARY: usize = 21;
+
+impl Summary {
+    /// The summary as numbers; yes is 1.
+    pub fn numbers(&self) -> [i32; SUMMARY] {
+        let mut numbers = vec![
+            self.rows,
+            self.bytes,
+            self.audio_end,
+            self.bsid.into(),
+            self.acmod.into(),
+            self.lfeon.into(),
+            self.fscod.into(),
+            self.cpl_blocks,
+        ];
+        numbers.extend(self.block_starts);
+        numbers.extend(self.mantissa_starts);
+        numbers.push(self.coordinates_sent.into());
+        let numbers: [usize; SUMMARY] = numbers.try_into().expect("21 numbers");
+        numbers.map(|n| n as i32)
+    }
+}
+
+/// Where bits come from: bytes that are read, or something that chooses each value as it is
+/// asked for (`draw`, `craft`).
+pub trait Source {
+    fn bytes(&self) -> usize;
+    fn field(&mut self, name: &'static str, index: i16, block: i8, at: usize, width: usize) -> u32;
+}
+
+pub struct Bytes<'a>(pub &'a [u8]);
+
+impl Source for Bytes<'_> {
+    fn bytes(&self) -> usize {
+        self.0.len()
+    }
+    fn field(&mut self, _: &'static str, _: i16, _: i8, at: usize, width: usize) -> u32 {
+        bits::get(self.0, at, width)
+    }
+}
+
+/// The Rust's `Cursor`, writing rows into lent room instead of growing a list.
+pub struct Cursor<'a, S> {
+    pub source: S,
+    pub pos: usize,
+    pub limit: usize,
+    pub block: i8,
+    pub count: usize,
+    pub room: &'a mut [i32],
+}
+
+impl<'a, S: Source> Cursor<'a, S> {
+    pub fn new(source: S, room: &'a mut [i32]) -> Self {
+        Self {
+            source,
+            pos: 0,
+            limit: 0,
+            block: -1,
+            count: 0,
+            room,
+        }
+    }
+
+    fn check(&self, width: usize, name: &str) -> Result<()> {
+        if self.pos + width > self.limit {
+            let (pos, limit) = (self.pos, self.limit);
+            return no(
+                6,
+                format!("{name} ({width} bits) at bit {pos} beyond {limit}"),
+            );
+        }
+        Ok(())
+    }
+
+    /// The room rule, then the row.
+    fn record(
+        &mut self,
+        name: &str,
+        role: Role,
+        index: i16,
+        pos: usize,
+        width: usize,
+        value: u32,
+    ) -> Result<()> {
+        let at = ROW * self.count;
+        let Some(row) = self.room.get_mut(at..at + ROW) else {
+            return no(7, "no row left");
+        };
+        let (role, programme) = role_numbers(role);
+        row.copy_from_slice(&[
+            number(name),
+            role,
+            programme,
+            self.block.into(),
+            index.into(),
+            pos as i32,
+            width as i32,
+            value as i32,
+        ]);
+        self.count += 1;
+        Ok(())
+    }
+
+    pub fn get_role(
+        &mut self,
+        name: &'static str,
+        role: Role,
+        index: i16,
+        width: usize,
+    ) -> Result<u32> {
+        self.check(width, name)?;
+        let value = self.source.field(name, index, self.block, self.pos, width);
+        self.record(name, role, index, self.pos, width, value)?;
+        self.pos += width;
+        Ok(value)
+    }
+
+    pub fn get(&mut self, name: &'static str, width: usize) -> Result<u32> {
+        self.get_role(name, Role::Plain, -1, width)
+    }
+
+    pub fn geti(&mut self, name: &'static str, index: usize, width: usize) -> Result<u32> {
+        self.get_role(name, Role::Plain, index as i16, width)
+    }
+
+    pub fn flag(&mut self, name: &'static str) -> Result<bool> {
+        Ok(self.get(name, 1)? != 0)
+    }
+
+    pub fn flagi(&mut self, name: &'static str, index: usize) -> Result<bool> {
+        Ok(self.geti(name, index, 1)? != 0)
+    }
+
+    pub fn span(&mut self, name: &'static str, role: Role, width: usize) -> Result<()> {
+        self.check(width, name)?;
+        self.record(name, role, -1, self.pos, width, 0)?;
+        self.pos += width;
+        Ok(())
+    }
+
+    pub fn close_span(&mut self, name: &'static str, role: Role, start: usize) -> Result<()> {
+        self.record(name, role, -1, start, self.pos - start, 0)
+    }
+
+    /// Pass over one mantissa or group. Its bits are never looked at.
+    pub fn raw(&mut self, width: usize, what: &str) -> Result<()> {
+        self.check(width, what)?;
+        self.pos += width;
+        Ok(())
+    }
+}
+
+/// What one call answers beside the room: the rows written, the first bit not yet read
+/// (`audio_end` if accepted), and the summary or the refusal.
+#[derive(Clone, Debug, PartialEq, Eq)]
+pub struct Answer {
+    pub rows: usize,
+    pub bit: usize,
+    pub verdict: Result<Summary>,
+}
+
+impl Answer {
+    /// The refusal's number; 0 for an accepted frame.
+    pub fn number(&self) -> u32 {
+        self.verdict.as_ref().map_or_else(|no| no.number, |_| 0)
+    }
+
+    /// Number, rows, bit and the summary's numbers, which are all 0 on a refusal.
+    pub fn numbers(&self) -> [i32; 3 + SUMMARY] {
+        let mut numbers = [0; 3 + SUMMARY];
+        numbers[..3].copy_from_slice(&[self.number() as i32, self.rows as i32, self.bit as i32]);
+        if let Ok(summary) = &self.verdict {
+            numbers[3..].copy_from_slice(&summary.numbers());
+        }
+        numbers
+    }
+}
+
+/// Parse the frame at byte `place` of `capture` into the lent `room`.
+pub fn answer(capture: &[u8], place: usize, room: &mut [i32]) -> Answer {
+    let mut cur = Cursor::new(Bytes(capture.get(place..).unwrap_or(&[])), room);
+    let verdict = ac3::parse(&mut cur);
+    Answer {
+        rows: cur.count,
+        bit: cur.pos,
+        verdict,
+    }
+}
+
+/// Rows that no frame can exceed: every row takes a bit of at most 3,840 bytes, but for the skip
+/// fields and mantissas of six blocks, which may have width 0.
+pub const MANY_ROWS: usize = 3840 * 8 + 12;

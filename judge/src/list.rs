@@ -1,0 +1,123 @@
+//! The text list of cases: its form, and one case at a time in both directions.
+
+use crate::cases::{Case, Edit};
+use crate::cut::SUMMARY;
+use std::fmt::Write;
+
+/// The head of the file.
+pub const HEAD: &str = "\
+# One item to a line, words separated by one space:
+#   frame HEX                                 the capture for the cases that follow
+#   case EDIT KEEP PLACE NUMBERS : NUMBER ROWS BIT CHECKSUM [SUMMARY...]
+# EDIT      `-`, or AT,WIDTH,VALUE: first overwrite WIDTH bits of the capture at bit AT with VALUE
+# KEEP      then keep this many bytes of the capture
+# PLACE     the byte at which to parse
+# NUMBERS   the length of the lent room; its number i is 1000000 + i before the call
+# NUMBER    0: accepted, else the refusal; ROWS and BIT as the scope says, BIT being audio_end if accepted
+# CHECKSUM  over every number of the room after the call: h = 2166136261, then for each number, as its four
+#           bytes lowest first, h = (h XOR byte) * 16777619 mod 2^32; in decimal
+# SUMMARY   on acceptance, the 21 numbers of the summary in the scope's order; yes is 1
+";
+
+/// The checksum over a room's numbers.
+pub fn checksum(numbers: &[i32]) -> u32 {
+    let bytes = numbers.iter().flat_map(|n| n.to_le_bytes());
+    bytes.fold(2_166_136_261, |h, b| {
+        (h ^ u32::from(b)).wrapping_mul(16_777_619)
+    })
+}
+
+/// What a list says of a call: the answer's numbers and the room's checksum.
+#[derive(Clone, Debug, PartialEq, Eq)]
+pub struct Said {
+    pub numbers: [i32; 3 + SUMMARY],
+    pub checksum: u32,
+}
+
+/// A call as a list holds it.
+#[derive(Clone, Debug, PartialEq, Eq)]
+pub struct Listed {
+    pub edit: Option<Edit>,
+    pub keep: usize,
+    pub place: usize,
+    pub numbers: usize,
+    pub said: Said,
+}
+
+/// What the judge says of a case.
+pub fn said(case: &Case<'_>) -> Said {
+    Said {
+        numbers: case.call.answer.numbers(),
+        checksum: checksum(&case.call.room),
+    }
+}
+
+pub fn listed(case: &Case<'_>) -> Listed {
+    Listed {
+        edit: case.edit,
+        keep: case.keep,
+        place: case.place,
+        numbers: case.call.room.len(),
+        said: said(case),
+    }
+}
+
+impl Listed {
+    pub fn line(&self) -> String {
+        let mut out = String::from("case ");
+        match self.edit {
+            None => out.push('-'),
+            Some(e) => write!(out, "{},{},{}", e.at, e.width, e.value).expect("text"),
+        }
+        let said = &self.said;
+        let [number, rows, bit] = [said.numbers[0], said.numbers[1], said.numbers[2]];
+        write!(
+            out,
+            " {} {} {} : {number} {rows} {bit} {}",
+            self.keep, self.place, self.numbers, said.checksum
+        )
+        .expect("text");
+        if number == 0 {
+            for n in &said.numbers[3..] {
+                write!(out, " {n}").expect("text");
+            }
+        }
+        out
+    }
+
+    /// Reads a line that begins with `case `.
+    pub fn read(line: &str) -> Listed {
+        let (call, said) = line["case ".len()..].split_once(" : ").expect("a case");
+        let call: Vec<&str> = call.split(' ').collect();
+        let edit = (call[0] != "-").then(|| {
+            let parts: Vec<usize> = call[0]
+                .split(',')
+                .map(|n| n.parse().expect("a number"))
+                .collect();
+            Edit {
+                at: parts[0],
+                width: parts[1],
+                value: parts[2] as u32,
+            }
+        });
+        let [keep, place, room] = [1, 2, 3].map(|i| call[i].parse().expect("a number"));
+        let said: Vec<i64> = said
+            .split(' ')
+            .map(|n| n.parse().expect("a number"))
+            .collect();
+        let mut numbers = [0; 3 + SUMMARY];
+        for (to, from) in numbers.iter_mut().zip(said[..3].iter().chain(&said[4..])) {
+            *to = *from as i32;
+        }
+        Listed {
+            edit,
+            keep,
+            place,
+            numbers: room,
+            said: Said {
+                numbers,
+                checksum: said[3] as u32,
+            },
+        }
+    }
+}

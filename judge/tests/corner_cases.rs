@@ -1,0 +1,130 @@
+//! The corner cases: each has the number that document 01 gives it, corners.txt is what the program
+//! prints, and every case that docs/DIFFERENCES.md shows is one of them, input and answer.
+
+use judge::agree::{Judge, Room};
+use judge::corners::{all, text};
+use judge::names::ROW;
+use std::collections::BTreeSet;
+use std::fs;
+use std::path::Path;
+
+fn file(path: &str) -> String {
+    let path = Path::new(env!("CARGO_MANIFEST_DIR")).join(path);
+    fs::read_to_string(&path).unwrap_or_else(|e| panic!("{}: {e}", path.display()))
+}
+
+#[test]
+fn each_has_its_number() {
+    let mut judge = Judge::default();
+    let mut names = BTreeSet::new();
+    for corner in all() {
+        let room = match corner.rows {
+            Some(rows) => Room::Numbers(ROW * rows),
+            None => Room::Sufficient { left_over: 0 },
+        };
+        let call = judge.call(&corner.capture, corner.place, room);
+        assert_eq!(call.answer.number(), corner.number, "{}", corner.name);
+        assert!(names.insert(corner.name), "{} stands twice", corner.name);
+    }
+}
+
+#[test]
+fn the_file_is_what_is_printed() {
+    assert_eq!(file("corners.txt"), text());
+}
+
+/// Blocks fenced as `case` hold one or more entries.
+#[test]
+fn differences_show_cases_of_the_list() {
+    let document = file("../docs/DIFFERENCES.md");
+    let mut judge = Judge::default();
+    let entries: Vec<String> = all()
+        .iter()
+        .map(|corner| corner.entry(&mut judge))
+        .collect();
+    let mut shown = 0;
+    for block in document.split("```case\n").skip(1) {
+        let block = block.split("```").next().unwrap();
+        let lines: Vec<&str> = block.lines().collect();
+        assert!(
+            lines.len().is_multiple_of(2) && !lines.is_empty(),
+            "{block}"
+        );
+        for entry in lines.chunks(2) {
+            let entry = format!("{}\n{}\n", entry[0], entry[1]);
+            assert!(entries.contains(&entry), "not in corners.txt:\n{entry}");
+            shown += 1;
+        }
+    }
+    assert!(shown >= 40, "{shown} cases shown");
+}
+
+/// Cases that it only names are in the list too, with the answer that it tells.
+#[test]
+fn differences_name_cases_of_the_list() {
+    let document = file("../docs/DIFFERENCES.md");
+    let mut judge = Judge::default();
+    let corners = all();
+    let (mut named, mut told) = (0, 0);
+    for mention in document.replace("Case `", "case `").split("case `").skip(1) {
+        let (name, rest) = mention.split_once('`').expect("a name");
+        let corner = corners.iter().find(|c| c.name == name).expect(name);
+        named += 1;
+        if let Some(answer) = rest.strip_prefix(" (`") {
+            let answer = answer.split('`').next().unwrap();
+            let entry = corner.entry(&mut judge);
+            let first = entry.lines().next().unwrap();
+            assert!(
+                first.ends_with(&format!(": {answer}")),
+                "{first}, told {answer}"
+            );
+            told += 1;
+        }
+    }
+    assert!(named >= 10 && told >= 5, "{named} named, {told} told");
+}
+
+/// Of the cases at the frame's end the published parser, with its tail, accepts one.
+#[test]
+fn the_published_tail_refuses() {
+    let published = |name: &str| {
+        let corner = all().into_iter().find(|c| c.name == name).expect(name);
+        judge::ac3::parse(&corner.capture)
+            .map(|f| f.audio_end)
+            .map_err(|e| e.to_string())
+    };
+    for (name, text) in [
+        (
+            "audio-to-the-last-bit",
+            "invalid stream: audio data ends at bit 1024",
+        ),
+        (
+            "audio-17-before-the-end",
+            "invalid stream: audio data ends at bit 1007",
+        ),
+        (
+            "auxdatal-too-long",
+            "invalid stream: auxdatal 16383 exceeds",
+        ),
+    ] {
+        let refused = published(name).unwrap_err();
+        assert!(refused.starts_with(text), "{name}: {refused}");
+    }
+    assert_eq!(published("audio-18-before-the-end"), Ok(1006));
+}
+
+#[test]
+fn coordinates_sent_is_document_01s() {
+    let mut judge = Judge::default();
+    let mut sent = |name: &str| {
+        let corner = all().into_iter().find(|c| c.name == name).expect(name);
+        let answer = judge.ample(&corner.capture, 0).answer;
+        answer.verdict.expect("accepted").coordinates_sent
+    };
+    assert!(sent("plain"), "no block uses coupling");
+    assert!(!sent("coordinates-never-sent"));
+    assert!(
+        sent("coordinates-of-a-late-channel"),
+        "only the first coupled block is looked at"
+    );
+}

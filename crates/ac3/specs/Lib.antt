@@ -6,4 +6,5 @@ pub mod Frame
 pub mod Marked
 pub mod Values
 pub mod Promise
+pub mod Sound
 pub mod Listing

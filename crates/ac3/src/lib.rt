@@ -1,11 +1,23 @@
 // The AC-3 syncframe as far as the end of its audio: syncinfo, bsi and six audio blocks.
+mod audio;
+mod block;
+mod coupling;
+mod elements;
+mod info;
+mod strategies;
+
 use blocks::AllocState;
 use blocks::Coupling;
 use blocks::Cover;
+use syntax::Cursor;
+use syntax::START;
+ghost use mathlib.Core.Path.{_≡_};
+ghost use Rattle.syntax.specs.Place.{exec, fresh};
+ghost use Rattle.ac3.specs.Frame as grammar;
 
 // What a frame's header says of its blocks.
 pub struct Header {
-    pub bytes: usize,
+    pub bytes: u16,
     pub fscod: u8,
     pub bsid: u8,
     pub acmod: u8,
@@ -28,16 +40,16 @@ pub struct State {
 
 // What the summary tells of the blocks: how many use coupling, whether coordinates were sent, where blocks and mantissas start.
 pub struct Tally {
-    pub coupled: usize,
+    pub coupled: u8,
     pub coordinates: bool,
-    pub starts: [usize; 6],
-    pub mantissas: [usize; 6],
+    pub starts: [u16; 6],
+    pub mantissas: [u16; 6],
 }
 
 // An accepted frame's summary; its end is audio_end.
 pub struct Summary {
     pub rows: usize,
-    pub end: usize,
+    pub end: u16,
     pub header: Header,
     pub tally: Tally,
 }
@@ -46,6 +58,81 @@ pub struct Summary {
 pub struct Answer {
     pub refusal: u8,
     pub rows: usize,
-    pub bit: usize,
+    pub bit: u16,
     pub summary: Summary,
+}
+
+// The answer where reading stopped: its summary is all zeros.
+fn refused(c: Cursor) -> Answer
+    ensures { λ r. ⌜ r ≡ record { refusal = c .stop; rows = c .count; bit = c .at; summary = grammar.noSummary } ⌝ }
+{
+    Answer {
+        refusal: c.stop,
+        rows: c.count,
+        bit: c.at,
+        summary: Summary {
+            rows: 0,
+            end: 0,
+            header: Header {
+                bytes: 0,
+                fscod: 0,
+                bsid: 0,
+                acmod: 0,
+                lfeon: false,
+            },
+            tally: Tally {
+                coupled: 0,
+                coordinates: false,
+                starts: [0; 6],
+                mantissas: [0; 6],
+            },
+        },
+    }
+}
+
+// The frame at the start of s. Where the header is refused the blocks are not looked at.
+fn syncframe(s: &[u8], rows: &mut [i32]) -> Answer
+    ensures { λ r. ⌜ (r, now (rows .exit)) ≡ grammar.answered (exec grammar.syncframe (now (s .entry)) (fresh (now (rows .entry)))) ⌝ }
+{
+    let head = info::header(s, rows, START);
+    let header = head.header;
+    let cursor = head.cursor;
+    if cursor.stop != 0 {
+        return refused(cursor);
+    }
+    let read = audio::audio(s, rows, cursor, header);
+    let tally = read.tally;
+    let cursor = read.cursor;
+    if cursor.stop != 0 {
+        return refused(cursor);
+    }
+    let count = cursor.count;
+    let end = cursor.at;
+    Answer {
+        refusal: 0,
+        rows: count,
+        bit: end,
+        summary: Summary {
+            rows: count,
+            end,
+            header,
+            tally,
+        },
+    }
+}
+
+// The frame that starts at a place of a capture: its rows go to the front of the room. Past the capture's end there is nothing, which is
+// too short.
+pub fn parse(capture: &[u8], place: usize, rows: &mut [i32]) -> Answer
+    ensures { λ r. ⌜ (r, now (rows .exit)) ≡ grammar.answer (now (capture .entry)) place (now (rows .entry)) ⌝ }
+{
+    if capture.len() < place {
+        return refused(Cursor {
+            at: 0,
+            limit: 0,
+            count: 0,
+            stop: 1,
+        });
+    }
+    syncframe(&capture[place..], rows)
 }

@@ -1,6 +1,7 @@
 pub mod Alloc
 pub mod Band
-pub mod Delta
 pub mod Excite
+pub mod Delta
 pub mod Allocation
+pub mod Values
 pub mod Listed

@@ -3,4 +3,5 @@ pub mod Exponents
 pub mod Parameters
 pub mod Delta
 pub mod Mantissas
+pub mod Counts
 pub mod Sound

@@ -14,18 +14,20 @@ use Rattle.syntax.specs.Grammar.{Grammar, done, _>>=_, _>>_, oneRoled, pieces, 
 use Rattle.syntax.specs.Names as Name
 use Rattle.tables.specs.Tables.{slowDecay, fastDecay, slowGain, fastGain, knee, floor, bapBits}
 use Rattle.blocks.specs.Delta.{noDeltas}
-use Rattle.blocks.specs.Slots.{CPL, LFE, Part, parts}
+use Rattle.blocks.specs.Slots.{CPL, LFE, parts}
 use Rattle.blocks.specs.declared.AllocState.{AllocState}
 use Rattle.blocks.specs.declared.Coupling.{Coupling}
 use Rattle.blocks.specs.declared.CouplingLeak.{CouplingLeak}
 use Rattle.blocks.specs.declared.Deltas.{Deltas}
+use Rattle.blocks.specs.declared.Offsets.{Offsets}
+use Rattle.blocks.specs.declared.Part.{Part}
 
 -- ---- 6.2.2.1: pointers
 
 -- the coarse offset and the fine ones of the slots in use are all 0: then every pointer is 0
-unfoldable pub silent : AllocState → List Part → Bool
-silent st [] = eqb (st .offsets .csnroffst) 0
-silent st (p ∷ ps) = eqb (getD (st .offsets .fsnroffst) (p .slot) 0) 0 && silent st ps
+unfoldable pub silent : Offsets → List Part → Bool
+silent o [] = eqb (o .csnroffst) 0
+silent o (p ∷ ps) = eqb (getD (o .fsnroffst) (p .slot) 0) 0 && silent o ps
 
 -- the leaks of a slot before its first band
 abbrev pub leakBefore : CouplingLeak → (slot : ℕ) → Leak
@@ -53,10 +55,12 @@ pointers fscod st exps p =
     pointerList (getD exps (p .slot) []) (p .start) (p .end) (gainsOf st (p .slot)) (knee (st .curve .dbpbcod)) fscod (leakBefore (st .leak) (p .slot))
     snr (floor (st .curve .floorcod)) (d .segments) (d .count)
 
+abbrev pub partPointers : (fscod : ℕ) → AllocState → List (List ℤ) → (quiet : Bool) → Part → List ℕ
+partPointers fscod st exps quiet p = cond quiet (replicate (p .end - p .start) 0) (pointers fscod st exps p)
+
 unfoldable pub allPointers : (fscod : ℕ) → AllocState → List (List ℤ) → (quiet : Bool) → List Part → List ℕ
 allPointers fscod st exps quiet [] = []
-allPointers fscod st exps quiet (p ∷ ps) =
-    cond quiet (replicate (p .end - p .start) 0) (pointers fscod st exps p) ++ allPointers fscod st exps quiet ps
+allPointers fscod st exps quiet (p ∷ ps) = partPointers fscod st exps quiet p ++ allPointers fscod st exps quiet ps
 
 -- ---- 6.3.5: the bits that each pointer takes
 
@@ -91,11 +95,15 @@ widths g (bap ∷ baps) = bitsOf g bap ∷ widths (nowOpen g bap) baps
 
 -- ---- the mantissas of a block: the bit at which they begin
 
+-- coupling needs its leak, unless every pointer is 0
+abbrev pub leakMissing : (quiet cplinu sent : Bool) → Bool
+leakMissing quiet cplinu sent = not quiet && (cplinu && not sent)
+
 unfoldable pub mantissas : (blk fscod nfchans : ℕ) (lfeon : Bool) → Coupling → (ends : List ℕ) → AllocState → List (List ℤ) → Grammar ℕ
 mantissas blk fscod nfchans lfeon c ends st exps = do
   let ps = parts nfchans lfeon c ends
-  let quiet = silent st ps
-  refuseIf (not quiet && (c .cplinu && not (st .leak .sent))) 20
+  let quiet = silent (st .offsets) ps
+  refuseIf (leakMissing quiet (c .cplinu) (st .leak .sent)) 20
   start ← position
   pieces (oneRoled blk Mantissas Name.mantissas) (widths noneOpen (allPointers fscod st exps quiet ps))
   done start

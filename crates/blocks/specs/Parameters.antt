@@ -11,6 +11,13 @@ use Rattle.blocks.specs.declared.Curve.{Curve}
 use Rattle.blocks.specs.declared.Offsets.{Offsets}
 use Rattle.blocks.specs.declared.CouplingLeak.{CouplingLeak}
 
+-- a flag that says whether something new is sent, which block 0 has to do
+abbrev pub announced : (blk name : ℕ) → Grammar Bool
+announced blk name = do
+  sent ← flag (one blk name)
+  refuseIf (eqb blk 0 && not sent) 8
+  done sent
+
 unfoldable pub newCurve : (blk : ℕ) → Grammar Curve
 newCurve blk = do
   sdcycod ← take (one blk Name.sdcycod) 2
@@ -22,8 +29,7 @@ newCurve blk = do
 
 unfoldable pub curve : (blk : ℕ) → Curve → Grammar Curve
 curve blk old = do
-  baie ← flag (one blk Name.baie)
-  refuseIf (eqb blk 0 && not baie) 8
+  baie ← announced blk Name.baie
   readIf baie old (newCurve blk)
 
 -- the fine offset and the fast gain of a slot
@@ -50,8 +56,7 @@ newOffsets blk nfchans cplinu lfeon old = do
 
 unfoldable pub offsets : (blk nfchans : ℕ) (cplinu lfeon : Bool) → Offsets → Grammar Offsets
 offsets blk nfchans cplinu lfeon old = do
-  snroffste ← flag (one blk Name.snroffste)
-  refuseIf (eqb blk 0 && not snroffste) 8
+  snroffste ← announced blk Name.snroffste
   readIf snroffste old (newOffsets blk nfchans cplinu lfeon old)
 
 unfoldable pub newLeak : (blk : ℕ) → Grammar CouplingLeak

@@ -5,6 +5,7 @@ use Prim.Native.Nat.{ℕ, zero, suc, _+_, _-_, _*_}
 use lib.Dec.{ltb}
 use lib.ListN.{getD}
 use Rattle.blocks.specs.declared.Coupling.{Coupling}
+use Rattle.blocks.specs.declared.Part.{Part}
 
 abbrev pub CPL : ℕ
 CPL = 5
@@ -33,11 +34,6 @@ abbrev pub coupled : Coupling → ℕ → Bool
 coupled c ch = getD (c .chincpl) ch false
 
 -- ---- the slots in use, in the order of their mantissas (4.3.3)
-
-pub record Part : Type 0 where
-  pub slot : ℕ
-  pub start : ℕ
-  pub end : ℕ
 
 abbrev pub part : (slot start end : ℕ) → Part
 part slot start end = record { slot = slot; start = start; end = end }

@@ -6,6 +6,7 @@ use lib.IntN.{ℤ, pos}
 use lib.ListN.{getD}
 use Rattle.signed.specs.Bound.{Below}
 use Rattle.blocks.specs.Delta.{noDeltas}
+use Rattle.blocks.specs.Exponents.{Unpacked}
 use Rattle.blocks.specs.declared.AllocState.{AllocState}
 use Rattle.blocks.specs.declared.Coupling.{Coupling}
 use Rattle.blocks.specs.declared.CouplingLeak.{CouplingLeak}
@@ -43,9 +44,13 @@ pub record SoundLeak (l : CouplingLeak) : Type 0 where
   pub cplfleak : l .cplfleak < 8
   pub cplsleak : l .cplsleak < 8
 
+-- the codes of the segments
+abbrev pub SoundCodes : List ℕ → Type 0
+SoundCodes segments = (n : ℕ) → getD segments (n * 3 + 2) 0 < 8
+
 pub record SoundSegments (d : Deltas) : Type 0 where
   pub count : d .count ≤ 8
-  pub codes : (n : ℕ) → getD (d .segments) (n * 3 + 2) 0 < 8
+  pub codes : SoundCodes (d .segments)
 
 abbrev pub SoundDeltas : List Deltas → Type 0
 SoundDeltas l = (i : ℕ) → SoundSegments (getD l i noDeltas)
@@ -60,6 +65,14 @@ pub record SoundAlloc (st : AllocState) : Type 0 where
 abbrev pub SoundEnds : List ℕ → Type 0
 SoundEnds ends = Entries ends 254
 
--- the exponents of the slots
+-- the exponents of a set, and of the slots
+abbrev pub SoundRow : List ℤ → Type 0
+SoundRow row = (bin : ℕ) → Below 5 (getD row bin (pos 0))
+
 abbrev pub SoundExps : List (List ℤ) → Type 0
-SoundExps exps = (slot bin : ℕ) → Below 5 (getD (getD exps slot []) bin (pos 0))
+SoundExps exps = (slot : ℕ) → SoundRow (getD exps slot [])
+
+-- a set while it is read
+pub record SoundUnpacked (u : Unpacked) : Type 0 where
+  pub last : u .last < 32
+  pub row : SoundRow (u .row)

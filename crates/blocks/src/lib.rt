@@ -1,5 +1,32 @@
 // The machinery of an audio block (4.3.3): exponents, bit allocation and mantissas, with what a block leaves to the next one.
 // Slots: full bandwidth channels 0 to 4, coupling 5, LFE 6.
+pub mod delta;
+pub mod exponents;
+pub mod mantissas;
+pub mod parameters;
+
+ghost use mathlib.Core.Path.{_≡_};
+ghost use Prim.Native.Nat.{_<_};
+ghost use Rattle.blocks.specs.Slots as slots;
+
+pub const CPL: u8 = 5;
+
+pub const LFE: u8 = 6;
+
+// The first bin of the coupling range, and the first bin past it. (The first is public: the crate above ends coupled channels there.)
+pub fn first_coupled(cplbegf: usize) -> usize
+    requires { ⌜ cplbegf < 16 ⌝ }
+    ensures { λ r. ⌜ r ≡ slots.firstCoupled cplbegf ⌝ }
+{
+    37 + 12 * cplbegf
+}
+
+fn past_coupled(cplendf: usize) -> usize
+    requires { ⌜ cplendf < 16 ⌝ }
+    ensures { λ r. ⌜ r ≡ slots.pastCoupled cplendf ⌝ }
+{
+    37 + 12 * (cplendf + 3)
+}
 
 // The coupling strategy in force.
 pub struct Coupling {
@@ -60,4 +87,25 @@ pub struct AllocState {
     pub offsets: Offsets,
     pub leak: CouplingLeak,
     pub deltas: [Deltas; 7],
+}
+
+// A slot in use, with its first bin and the first bin past its last.
+pub struct Part {
+    pub slot: u8,
+    pub start: usize,
+    pub end: usize,
+}
+
+// The slots in use, in the order of their mantissas.
+pub struct Parts {
+    pub count: usize,
+    pub list: [Part; 7],
+}
+
+// Mantissas counted: the bits of those that stand alone, and how many there are of pointers 1, 2 and 4.
+pub struct Counts {
+    pub bits: u32,
+    pub ones: u32,
+    pub twos: u32,
+    pub fours: u32,
 }

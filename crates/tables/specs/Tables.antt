@@ -1,12 +1,16 @@
--- The tables of TS 102 366 that parsing and bit allocation look into: 4.4.2.3, 4.4.4.1, 6.2.2 and 6.3.5.
+-- The tables of TS 102 366, as lists and functions: of a frame's size and channels (4.4), of the bit allocation (6.2.2) and of the
+-- mantissas (6.3.5). Past its last entry a table has 0. Assumes nothing.
 use mathlib.Core.List.{List, [], _∷_}
 use Prim.Native.Nat.{ℕ, _*_, _/_, zero, suc}
 use lib.IntN.{ℤ, pos, negsuc}
 use lib.ListN.{getD}
 
 -- Table 4.3: full bandwidth channels
+abbrev pub channelCounts : List ℕ
+channelCounts = 2 ∷ 1 ∷ 2 ∷ 3 ∷ 3 ∷ 4 ∷ 4 ∷ 5 ∷ []
+
 unfoldable pub nfchans : ℕ → ℕ
-nfchans acmod = getD (2 ∷ 1 ∷ 2 ∷ 3 ∷ 3 ∷ 4 ∷ 4 ∷ 5 ∷ []) acmod 0
+nfchans acmod = getD channelCounts acmod 0
 
 -- Table 4.13: words to a frame, by half of frmsizecod at 48 kHz, and by frmsizecod at 44.1 kHz
 unfoldable pub words48 : List ℕ
@@ -37,15 +41,14 @@ slowGain sgaincod = getD (1344 ∷ 1240 ∷ 1144 ∷ 1040 ∷ []) sgaincod 0
 unfoldable pub knee : ℕ → ℕ
 knee dbpbcod = getD (0 ∷ 1792 ∷ 2304 ∷ 2816 ∷ []) dbpbcod 0
 
+abbrev pub floors : List ℤ
+floors = pos 752 ∷ pos 688 ∷ pos 624 ∷ pos 560 ∷ pos 496 ∷ pos 368 ∷ pos 240 ∷ negsuc 2047 ∷ []
+
 unfoldable pub floor : ℕ → ℤ
-floor floorcod = getD (pos 752 ∷ pos 688 ∷ pos 624 ∷ pos 560 ∷ pos 496 ∷ pos 368 ∷ pos 240 ∷ negsuc 2047 ∷ []) floorcod (pos 0)
+floor floorcod = getD floors floorcod (pos 0)
 
 unfoldable pub fastGain : ℕ → ℕ
 fastGain fgaincod = getD (128 ∷ 256 ∷ 384 ∷ 512 ∷ 640 ∷ 768 ∷ 896 ∷ 1024 ∷ []) fgaincod 0
-
--- Table 6.17: the bits of a mantissa by its bap; those of 1, 2 and 4 come in groups
-unfoldable pub bapBits : ℕ → ℕ
-bapBits bap = getD (0 ∷ 0 ∷ 0 ∷ 3 ∷ 0 ∷ 4 ∷ 5 ∷ 6 ∷ 7 ∷ 8 ∷ 9 ∷ 10 ∷ 11 ∷ 12 ∷ 14 ∷ 16 ∷ []) bap 0
 
 -- Table 6.12: the first bin past each of the 50 bands
 unfoldable pub bandEnd : List ℕ
@@ -86,3 +89,10 @@ bap =
     0 ∷ 1 ∷ 1 ∷ 1 ∷ 1 ∷ 1 ∷ 2 ∷ 2 ∷ 3 ∷ 3 ∷ 3 ∷ 4 ∷ 4 ∷ 5 ∷ 5 ∷ 6 ∷ 6 ∷ 6 ∷ 6 ∷ 7 ∷ 7 ∷ 7 ∷ 7 ∷ 8 ∷
     8 ∷ 8 ∷ 8 ∷ 9 ∷ 9 ∷ 9 ∷ 9 ∷ 10 ∷ 10 ∷ 10 ∷ 10 ∷ 11 ∷ 11 ∷ 11 ∷ 11 ∷ 12 ∷ 12 ∷ 12 ∷ 12 ∷ 13 ∷ 13 ∷ 13 ∷ 13 ∷ 14 ∷
     14 ∷ 14 ∷ 14 ∷ 14 ∷ 14 ∷ 14 ∷ 14 ∷ 15 ∷ 15 ∷ 15 ∷ 15 ∷ 15 ∷ 15 ∷ 15 ∷ 15 ∷ 15 ∷ []
+
+-- Table 6.17: the bits of a mantissa by its bap; those of 1, 2 and 4 come in groups
+abbrev pub mantissaBits : List ℕ
+mantissaBits = 0 ∷ 0 ∷ 0 ∷ 3 ∷ 0 ∷ 4 ∷ 5 ∷ 6 ∷ 7 ∷ 8 ∷ 9 ∷ 10 ∷ 11 ∷ 12 ∷ 14 ∷ 16 ∷ []
+
+unfoldable pub bapBits : ℕ → ℕ
+bapBits bap = getD mantissaBits bap 0

@@ -1,1 +1,164 @@
-// The tables of the standard.
+// The tables of TS 102 366. One function reads each, since a table that stands in a goal is written out there. They are
+// public because the crates above look into them; past its last entry a table has 0.
+mod entries;
+
+ghost use mathlib.Core.Path.{_≡_};
+ghost use Prim.Native.Nat.{_+_, _*_, _≤_, _<_, min};
+ghost use lib.IntN.{pos};
+ghost use lib.ListN.{getD};
+ghost use Rattle.signed.specs.Level.{clampZ};
+ghost use Rattle.signed.specs.Bound.{Below};
+ghost use Rattle.tables.specs.Tables as standard;
+
+// Table 4.3: full bandwidth channels.
+pub fn nfchans(acmod: u8) -> u8
+    ensures { λ r. ⌜ (r ≡ standard.nfchans acmod) × (r ≤ 5) ⌝ }
+{
+    if acmod < 8 {
+        entries::NFCHANS[acmod as usize]
+    } else {
+        0
+    }
+}
+
+// Table 4.13 at 48 kHz: words to a frame, by half of frmsizecod.
+fn words_48(half: u8) -> u16
+    ensures { λ r. ⌜ (r ≡ getD standard.words48 half 0) × (r ≤ 1280) ⌝ }
+{
+    if half < 19 {
+        entries::WORDS_48[half as usize]
+    } else {
+        0
+    }
+}
+
+// Table 4.13 at 44.1 kHz: words to a frame, by frmsizecod.
+fn words_44(frmsizecod: u8) -> u16
+    ensures { λ r. ⌜ (r ≡ getD standard.words44 frmsizecod 0) × (r ≤ 1394) ⌝ }
+{
+    if frmsizecod < 38 {
+        entries::WORDS_44[frmsizecod as usize]
+    } else {
+        0
+    }
+}
+
+// Table 4.13: bytes of a frame; 0 where there is no such frame.
+pub fn frame_bytes(fscod: u8, frmsizecod: u8) -> u16
+    ensures { λ r. ⌜ (r ≡ standard.frameBytes fscod frmsizecod) × (r ≤ 3840) ⌝ }
+{
+    if fscod == 0 {
+        return 2 * words_48(frmsizecod / 2);
+    }
+    if fscod == 1 {
+        return 2 * words_44(frmsizecod);
+    }
+    if fscod == 2 {
+        return 3 * words_48(frmsizecod / 2);
+    }
+    0
+}
+
+// Table 6.6.
+pub fn slow_decay(sdcycod: u8) -> u16
+    ensures { λ r. ⌜ r ≡ standard.slowDecay sdcycod ⌝ }
+{
+    if sdcycod < 4 {
+        entries::SLOW_DECAY[sdcycod as usize]
+    } else {
+        0
+    }
+}
+
+// Table 6.7.
+pub fn fast_decay(fdcycod: u8) -> u16
+    ensures { λ r. ⌜ r ≡ standard.fastDecay fdcycod ⌝ }
+{
+    if fdcycod < 4 {
+        entries::FAST_DECAY[fdcycod as usize]
+    } else {
+        0
+    }
+}
+
+// Table 6.8.
+pub fn slow_gain(sgaincod: u8) -> u16
+    ensures { λ r. ⌜ r ≡ standard.slowGain sgaincod ⌝ }
+{
+    if sgaincod < 4 {
+        entries::SLOW_GAIN[sgaincod as usize]
+    } else {
+        0
+    }
+}
+
+// Table 6.9.
+pub fn db_knee(dbpbcod: u8) -> u16
+    ensures { λ r. ⌜ r ≡ standard.knee dbpbcod ⌝ }
+{
+    if dbpbcod < 4 {
+        entries::DB_KNEE[dbpbcod as usize]
+    } else {
+        0
+    }
+}
+
+// Table 6.10.
+pub fn floor(floorcod: u8) -> i32
+    ensures { λ r. ⌜ (r ≡ standard.floor floorcod) × Below 11 r ⌝ }
+{
+    if floorcod < 8 {
+        entries::FLOOR[floorcod as usize]
+    } else {
+        0
+    }
+}
+
+// Table 6.11.
+pub fn fast_gain(fgaincod: u8) -> u16
+    ensures { λ r. ⌜ r ≡ standard.fastGain fgaincod ⌝ }
+{
+    if fgaincod < 8 {
+        entries::FAST_GAIN[fgaincod as usize]
+    } else {
+        0
+    }
+}
+
+// Table 6.12: the first bin past a band. It asks for a band of the table, to save the test in each band's step.
+pub fn band_end(band: usize) -> usize
+    requires { ⌜ band < 50 ⌝ }
+    ensures { λ r. ⌜ r ≡ getD standard.bandEnd band 0 ⌝ }
+{
+    entries::BAND_END[band] as usize
+}
+
+// Table 6.14: the last entry serves every distance past it.
+pub fn log_add(half: usize) -> i32
+    ensures { λ r. ⌜ r ≡ pos (getD standard.logAdd (min half 255) 0) ⌝ }
+{
+    entries::LOG_ADD[signed::least(half, 255)] as i32
+}
+
+// Table 6.15. It asks for a place of the table, as band_end does.
+pub fn hearing(fscod: usize, band: usize) -> i32
+    requires { ⌜ (fscod < 3) × (band < 50) ⌝ }
+    ensures { λ r. ⌜ r ≡ pos (getD standard.hearing (50 * fscod + band) 0) ⌝ }
+{
+    entries::HEARING[50 * fscod + band] as i32
+}
+
+// Table 6.16, by the address held between 0 and 63.
+pub fn bap(address: i32) -> u8
+    ensures { λ r. ⌜ (r ≡ getD standard.bap (clampZ address 63) 0) × (r < 16) ⌝ }
+{
+    entries::BAP[signed::clamp(address, 63)]
+}
+
+// Table 6.17: the bits of a mantissa that stands alone. It asks for a bap, to save the test at each bin.
+pub fn bap_bits(bap: u8) -> u8
+    requires { ⌜ bap < 16 ⌝ }
+    ensures { λ r. ⌜ (r ≡ standard.bapBits bap) × (r ≤ 16) ⌝ }
+{
+    entries::BAP_BITS[bap as usize]
+}

@@ -1,0 +1,49 @@
+//! bench FILE PASSES [port|rust]: parses every frame of FILE, PASSES times, by both or by one (for callgrind), and prints the best pass of each.
+
+use compare_parse::parse;
+use judge::tables::ac3_frame_words;
+use std::hint::black_box;
+use std::time::Instant;
+
+fn frames(stream: &[u8]) -> Vec<&[u8]> {
+    let mut frames = Vec::new();
+    let mut at = 0;
+    while at + 6 <= stream.len() {
+        let code = stream[at + 4];
+        let words = ac3_frame_words(usize::from(code >> 6), usize::from(code & 63)).expect("a frame");
+        frames.push(&stream[at..at + 2 * words]);
+        at += 2 * words;
+    }
+    frames
+}
+
+fn best(name: &str, passes: usize, frames: &[&[u8]], mut one: impl FnMut(&[u8])) {
+    let least = (0..passes)
+        .map(|_| {
+            let began = Instant::now();
+            frames.iter().for_each(|f| one(f));
+            began.elapsed().as_nanos() as f64 / frames.len() as f64
+        })
+        .fold(f64::INFINITY, f64::min);
+    println!("{name}: {:.1} us a frame, best of {passes} passes over {} frames", least / 1000.0, frames.len());
+}
+
+fn main() {
+    let args: Vec<String> = std::env::args().skip(1).collect();
+    let stream = std::fs::read(&args[0]).expect("a file");
+    let passes = args[1].parse().expect("PASSES is a number");
+    let which = args.get(2).map_or("both", String::as_str);
+    let frames = frames(&stream);
+    let mut rows = vec![0i32; 8 * 4096];
+    if which != "rust" {
+        best("port", passes, &frames, |f| {
+            let answer = parse(black_box(f), 0, &mut rows);
+            assert_eq!(black_box(answer)[0], 0);
+        });
+    }
+    if which != "port" {
+        best("rust", passes, &frames, |f| {
+            black_box(judge::ac3::parse(black_box(f))).expect("accepted");
+        });
+    }
+}

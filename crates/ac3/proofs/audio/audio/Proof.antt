@@ -1,0 +1,58 @@
+-- `ac3::audio::audio` meets its contract: the invariant says which blocks are left, and that what they leave to the next one is within its bounds. Assumes nothing.
+use Prim.Native.Nat.{_-_, _≤_}
+use native.Mathlib.Omega.{arith}
+use borrow.Author.Needs.{needs}
+use Rattle.syntax.proofs.Sequence.{Turns, begins, turn, ends, then, finished, stopped, standing}
+use Rattle.blocks.specs.Sound.{SoundExps}
+use Rattle.ac3.specs.AudioBlock.{audioBlock}
+use Rattle.ac3.specs.Frame.{unread, audio}
+use Rattle.ac3.specs.Sound.{SoundState}
+use Rattle.ac3.proofs.Going.{leaves}
+use Rattle.ac3.proofs.Start.{sound-state, sound-exps}
+use Rattle.ac3.proofs.audio.audio.Statement.{statement}
+use Rattle.ac3.proofs.audio.audio.Tie as tie
+
+abbrev Inv-loop : tie.InvT-loop
+Inv-loop s rows₀ header exps₀ state₀ tally₀ cursor₀ blk₀ rows exps state tally cursor blk =
+    Turns (audioBlock header) 0 6 unread s cursor₀ rows₀ blk (record { state = state; exps = exps; tally = tally }) cursor rows
+    × SoundState state × SoundExps exps × (tally .coupled ≤ blk)
+
+abbrev μ-loop : tie.MeasureT-loop
+μ-loop s rows₀ header exps₀ state₀ tally₀ cursor₀ blk₀ rows exps state tally cursor blk = 6 - blk
+
+starts : tie.Need-loop-holds Inv-loop μ-loop
+starts c =
+    rw (c .before .unsent .ensures, c .uncounted .ensures) (begins, sound-state, sound-exps, omega arith)
+
+early : tie.Need-returns Inv-loop μ-loop
+unfolding audio
+early c = then _ (leaves (c .before .before .before .loop .inv .0) (c .if1 .taken)) (stopped (c .if1 .taken))
+
+again : tie.Need-loop-again Inv-loop μ-loop
+again c =
+    let t = c .before .before .before .before in
+    let test = t .before .before .before .before .before in
+    let after = t .audio-block .ensures in
+    (turn (test .before .loop .inv .0) (test .loop-test .taken) (after .0), after .1 .0, after .1 .1 .0, after .1 .1 .1)
+
+reads : tie.Need-returns-2 Inv-loop μ-loop
+unfolding audio
+reads c = then _ (ends (c .before .loop .inv .0) (c .loop-test .left)) (then _ standing finished)
+
+pub audio-spec : {M : Type 1} → statement M
+audio-spec =
+    tie.close
+    (tie.spec
+    Inv-loop
+    μ-loop
+    (λ c κs. search needs)  -- unsent-requires
+    (λ c κs. search needs)  -- uncounted-requires
+    starts
+    (λ c. early c .long)  -- same-length
+    early
+    (λ c κs. let at = c .before .before .before .before .before .loop in let inv = at .inv in ((c .before .before .before .before .loop-test .taken, inv .3), (c .before .before .before .before .before .before .before .before .before .pre, (inv .1, inv .2))))  -- audio-block-requires
+    (λ c. search needs)  -- add-blk
+    (λ c. search needs)  -- loop-less
+    again
+    (λ c. reads c .long)  -- same-length-2
+    reads)

@@ -1,0 +1,261 @@
+// audblk (4.3.3): the sections of a block in the order of the syntax table.
+use crate::Header;
+use crate::State;
+use crate::Tally;
+use crate::coupling::coupling_coordinates;
+use crate::coupling::coupling_strategy;
+use crate::coupling::rematrixing;
+use crate::elements::and_not;
+use crate::elements::flags;
+use crate::elements::roled;
+use crate::info::programmes;
+use crate::strategies::bandwidths;
+use crate::strategies::channel_ends;
+use crate::strategies::exponent_strategies;
+use blocks::AllocState;
+use blocks::delta::deltas;
+use blocks::exponents::exponents;
+use blocks::mantissas::mantissas;
+use blocks::parameters::coupling_leak;
+use blocks::parameters::curve;
+use blocks::parameters::offsets;
+use syntax::Cursor;
+use syntax::Role;
+use syntax::names::*;
+ghost use mathlib.Core.List.{List};
+ghost use mathlib.Core.Path.{_≡_};
+ghost use Prim.Native.Nat.{ℕ, _+_, _<_, _≤_};
+ghost use Rattle.syntax.specs.Grammar as syntax;
+ghost use Rattle.syntax.specs.Reads.{Reads};
+ghost use Rattle.blocks.specs.Sound.{SoundAlloc, SoundExps};
+ghost use Rattle.ac3.specs.AudioBlock as grammar;
+ghost use Rattle.ac3.specs.Header as header;
+ghost use Rattle.ac3.specs.Sound.{SoundHeader, SoundState};
+
+// Dynamic range: the second programme's names stand two further on.
+fn dynamic_range(s: &[u8], rows: &mut [i32], c: Cursor, blk: u8, p: u8) -> Cursor
+    requires { ⌜ p < 2 ⌝ }
+    ensures { λ r. ⌜ Reads (grammar.dynamicRange blk p) (now (s .entry)) c (now (rows .entry)) tt r (now (rows .exit)) ⌝ }
+{
+    let exists = roled(blk, Role::DynrngExists(p), DYNRNGE + 2 * p);
+    let dynrnge = syntax::flag(s, rows, c, exists);
+    let dynrng = roled(blk, Role::Dynrng(p), DYNRNG + 2 * p);
+    syntax::note_when(s, rows, dynrnge.cursor, dynrnge.set, dynrng, 8)
+}
+
+fn dynamic_ranges(s: &[u8], rows: &mut [i32], c: Cursor, blk: u8, acmod: u8) -> Cursor
+    ensures { λ r. ⌜ Reads (syntax.each (header.programmes acmod) (grammar.dynamicRange blk)) (now (s .entry)) c (now (rows .entry)) tt r (now (rows .exit)) ⌝ }
+{
+    let last = programmes(acmod);
+    let mut cursor = c;
+    for p in 0..last {
+        cursor = dynamic_range(s, rows, cursor, blk, p);
+    }
+    cursor
+}
+
+fn skip_field(s: &[u8], rows: &mut [i32], c: Cursor, blk: u8) -> Cursor
+    ensures { λ r. ⌜ Reads (grammar.skipField blk) (now (s .entry)) c (now (rows .entry)) tt r (now (rows .exit)) ⌝ }
+{
+    let skiple = syntax::flag(s, rows, c, roled(blk, Role::Skiple, SKIPLE));
+    if skiple.set {
+        let skipl = syntax::take(s, rows, skiple.cursor, roled(blk, Role::Skipl, SKIPL), 9);
+        let skipfld = roled(blk, Role::Skipfld, SKIPFLD);
+        syntax::pass(rows, skipl.cursor, skipfld, 8 * skipl.value as u16)
+    } else {
+        skiple.cursor
+    }
+}
+
+// Every coupled channel sent coordinates.
+fn all_sent(chincpl: [bool; 5], cplcoe: [bool; 5]) -> bool
+    ensures { λ r. ⌜ r ≡ grammar.allSent chincpl cplcoe ⌝ }
+{
+    for ch in 0..5 {
+        if and_not(chincpl[ch], cplcoe[ch]) {
+            return false;
+        }
+    }
+    true
+}
+
+// The first block with coupling decides whether coordinates were sent.
+fn counted(blk: u8, start: u16, mantissas: u16, cplinu: bool, sent: bool, t: Tally) -> Tally
+    requires { ⌜ (blk < 6) × (t .coupled ≤ blk) ⌝ }
+    ensures { λ r. ⌜ r ≡ grammar.counted blk start mantissas cplinu sent t ⌝ }
+    ensures { λ r. ⌜ r .coupled ≤ blk + 1 ⌝ }
+{
+    let at = blk as usize;
+    let mut starts = t.starts;
+    let mut mantissa_starts = t.mantissas;
+    starts[at] = start;
+    mantissa_starts[at] = mantissas;
+    if cplinu {
+        if t.coupled == 0 {
+            Tally {
+                coupled: 1,
+                coordinates: sent,
+                starts,
+                mantissas: mantissa_starts,
+            }
+        } else {
+            Tally {
+                coupled: t.coupled + 1,
+                coordinates: t.coordinates,
+                starts,
+                mantissas: mantissa_starts,
+            }
+        }
+    } else {
+        Tally {
+            coupled: t.coupled,
+            coordinates: t.coordinates,
+            starts,
+            mantissas: mantissa_starts,
+        }
+    }
+}
+
+// ---- the whole block
+
+pub struct AllocRead {
+    pub alloc: AllocState,
+    pub cursor: Cursor,
+}
+
+// Bit allocation information, as far as the skip field.
+fn alloc_state(
+    s: &[u8],
+    rows: &mut [i32],
+    c: Cursor,
+    blk: u8,
+    nfchans: u8,
+    cplinu: bool,
+    lfeon: bool,
+    old: AllocState,
+) -> AllocRead
+    requires { ⌜ nfchans ≤ 5 ⌝ }
+    requires { ⌜ SoundAlloc old ⌝ }
+    ensures { λ r. ⌜ Reads (grammar.allocState blk nfchans cplinu lfeon old) (now (s .entry)) c (now (rows .entry)) (r .alloc) (r .cursor) (now (rows .exit)) ⌝ }
+    ensures { λ r. ⌜ SoundAlloc (r .alloc) ⌝ }
+{
+    let one = curve(s, rows, c, blk, old.curve);
+    let two = offsets(
+        s,
+        rows,
+        one.cursor,
+        blk,
+        nfchans,
+        cplinu,
+        lfeon,
+        old.offsets,
+    );
+    let three = coupling_leak(s, rows, two.cursor, blk, cplinu, old.leak);
+    let segments = old.deltas;
+    let four = deltas(s, rows, three.cursor, blk, nfchans, cplinu, segments);
+    let curve = one.curve;
+    let offsets = two.offsets;
+    let leak = three.leak;
+    let deltas = four.deltas;
+    let cursor = four.cursor;
+    AllocRead {
+        alloc: AllocState {
+            curve,
+            offsets,
+            leak,
+            deltas,
+        },
+        cursor,
+    }
+}
+
+pub struct BlockRead {
+    pub state: State,
+    pub tally: Tally,
+    pub cursor: Cursor,
+}
+
+// The exponents in force stand beside the state.
+pub fn audio_block(
+    s: &[u8],
+    rows: &mut [i32],
+    c: Cursor,
+    exps: &mut [[i16; 256]; 7],
+    header: Header,
+    blk: u8,
+    old: State,
+    tally: Tally,
+) -> BlockRead
+    requires { ⌜ (blk < 6) × (tally .coupled ≤ blk) ⌝ }
+    requires { ⌜ SoundHeader header ⌝ }
+    requires { ⌜ SoundState old ⌝ }
+    requires { ⌜ SoundExps (now exps) ⌝ }
+    ensures { λ r. ⌜ Reads (grammar.audioBlock header blk (record { state = old; exps = now (exps .entry); tally = tally })) (now (s .entry)) c (now (rows .entry)) (record { state = r .state; exps = now (exps .exit); tally = r .tally }) (r .cursor) (now (rows .exit)) ⌝ }
+    ensures { λ r. ⌜ SoundState (r .state) ⌝ }
+    ensures { λ r. ⌜ SoundExps (now (exps .exit)) ⌝ }
+    ensures { λ r. ⌜ r .tally .coupled ≤ blk + 1 ⌝ }
+{
+    let start = c.at;
+    let fscod = header.fscod;
+    let acmod = header.acmod;
+    let lfeon = header.lfeon;
+    let n = tables::nfchans(acmod);
+    let blksw = flags(s, rows, c, blk, BLKSW, n);
+    let dithflag = flags(s, rows, blksw, blk, DITHFLAG, n);
+    let dynrng = dynamic_ranges(s, rows, dithflag, blk, acmod);
+    let strategy = coupling_strategy(s, rows, dynrng, blk, acmod, n, old.coupling);
+    let coupling = strategy.coupling;
+    let cplinu = coupling.cplinu;
+    let coordinates = coupling_coordinates(s, rows, strategy.cursor, blk, n, coupling);
+    let rematrixed = rematrixing(s, rows, coordinates.cursor, blk, acmod, coupling);
+    let expstr = exponent_strategies(s, rows, rematrixed, blk, n, cplinu, lfeon);
+    let new = expstr.strategies;
+    let chexpstr = new.chexpstr;
+    let chbwcod = bandwidths(
+        s,
+        rows,
+        expstr.cursor,
+        blk,
+        n,
+        coupling,
+        chexpstr,
+        old.bandwidths,
+    );
+    let bandwidths = chbwcod.bandwidths;
+    let past = channel_ends(chbwcod.cursor, n, coupling, bandwidths);
+    let ends = past.ends;
+    let at = past.cursor;
+    let exp = exponents(
+        s,
+        rows,
+        at,
+        exps,
+        blk,
+        n,
+        lfeon,
+        coupling,
+        new,
+        ends,
+        old.cover,
+    );
+    let cover = exp.cover;
+    let bai = alloc_state(s, rows, exp.cursor, blk, n, cplinu, lfeon, old.alloc);
+    let alloc = bai.alloc;
+    let at = skip_field(s, rows, bai.cursor, blk);
+    let mant = mantissas(rows, at, blk, fscod, n, lfeon, coupling, ends, alloc, exps);
+    let cursor = mant.cursor;
+    let chincpl = coupling.chincpl;
+    let cplcoe = coordinates.set;
+    let sent = all_sent(chincpl, cplcoe);
+    let tally = counted(blk, start, mant.start, cplinu, sent, tally);
+    BlockRead {
+        state: State {
+            coupling,
+            bandwidths,
+            cover,
+            alloc,
+        },
+        tally,
+        cursor,
+    }
+}

@@ -1,0 +1,58 @@
+-- `blocks::mantissas::mantissas` meets its contract: a judge, and a walk that is closed by its row. Assumes nothing.
+use mathlib.Core.Path.{_≡_, _∙_}
+use borrow.Author.Needs.{needs}
+use Rattle.syntax.specs.Reads.{walked}
+use Rattle.syntax.proofs.Sequence.{then, judged, standing, stopped, finished}
+use Rattle.syntax.proofs.Walk.{closes, walked-from}
+use Rattle.blocks.specs.Mantissas.{silent, noneOpen, widths, allPointers, leakMissing, mantissas}
+use Rattle.blocks.specs.Slots.{parts}
+use Rattle.blocks.proofs.mantissas.mantissas.Statement.{statement}
+use Rattle.blocks.proofs.mantissas.mantissas.Tie as tie
+
+-- the code's slots are the definition's, and so is whether every pointer is 0
+quiet : (c : tie.After-is-silent) → let a = c .before .before .before .before .args in c .is-silent .result ≡ silent (a .st .offsets) (parts (a .nfchans) (a .lfeon) (a .coupling) (a .ends))
+quiet c = c .is-silent .ensures ∙ rw (c .before .parts .ensures .0)
+
+judge : (c : tie.After-leak-missing) → let a = c .before .before .before .before .before .before .args in
+    c .leak-missing .result ≡ leakMissing (silent (a .st .offsets) (parts (a .nfchans) (a .lfeon) (a .coupling) (a .ends))) (a .coupling .cplinu) (a .st .leak .sent)
+judge c = rw (← quiet (c .before .before)) (c .leak-missing .ensures)
+
+refused : tie.Need-returns-2
+unfolding mantissas
+refused c s =
+    let j = c .before .before in
+    then _ (judged (j .refuse-if .ensures) (judge (j .before))) (stopped (c .if2 .taken))
+
+walks : (c : tie.After-walk) → let j = c .before .before .before in
+    let a = j .before .before .before .before .before .before .before .args in
+    let ps = parts (a .nfchans) (a .lfeon) (a .coupling) (a .ends) in
+    c .walk .result ≡ walked (widths noneOpen (allPointers (a .fscod) (a .st) (a .exps .now) (silent (a .st .offsets) ps) ps)) (j .refuse-if .result)
+walks c =
+    let q = c .before .before .before .before .before .before in
+    rw (← quiet q, ← q .before .parts .ensures .0) (c .walk .ensures)
+
+reads : tie.Need-returns-3
+unfolding mantissas
+reads c s =
+    let t = c .before in
+    let w = t .before .before in
+    let j = w .before .before .before in
+    then _ (judged (j .refuse-if .ensures) (judge (j .before)))
+    (then _ standing
+    (then _ (closes (walks w) (t .close .ensures) (t .close .kept .0))
+    finished))
+
+pub mantissas-spec : {M : Type 1} → statement M
+mantissas-spec =
+    tie.close
+    (tie.spec
+    (λ c s. stopped (c .if1 .taken))  -- returns
+    (λ c κs. search needs)  -- parts-requires
+    (λ c κs. search needs)  -- is-silent-requires
+    (λ c κs. search needs)  -- leak-missing-requires
+    (λ c κs. search needs)  -- refuse-if-requires
+    refused
+    (λ c κs. search needs)  -- walk-requires
+    (λ c κs. rw (c .before .walk .ensures) (walked-from _ _))  -- close-requires
+    (λ c. search needs)  -- same-length
+    reads)

@@ -1,0 +1,17 @@
+-- `blocks::mantissas::parts` meets its contract: LFE is last, where it is on. Assumes nothing.
+use mathlib.Core.List.{append-nil}
+use mathlib.Core.Path.{sym, _∙_}
+use borrow.Author.Needs.{needs}
+use Rattle.blocks.specs.Slots.{parts}
+use Rattle.blocks.proofs.mantissas.parts.Statement.{statement}
+use Rattle.blocks.proofs.mantissas.parts.Tie as tie
+
+pub parts-spec : {M : Type 1} → statement M
+unfolding parts
+parts-spec =
+    tie.close
+    (tie.spec
+    (λ c κs. search needs)  -- channel-parts-requires
+    (λ c κs. search needs)  -- push-requires
+    (λ c. let t = c .before .before in (rw (c .push .ensures .0 .0, t .channel-parts .ensures .0, c .before .if1 .taken), c .push .ensures .1))  -- returns
+    (λ c. let t = c .before in (rw (c .if1 .left) (t .channel-parts .ensures .0 ∙ sym (append-nil _)), t .channel-parts .ensures .1 .0)))  -- returns-2

@@ -1,0 +1,472 @@
+// The exponents of a block (4.3.3, 6.1.3): for each slot a first exponent, and then differences, three to a group, each of
+// them for 1, 2 or 4 bins. `exponents` is public because the audio block stands in a crate above.
+use crate::CPL;
+use crate::Coupling;
+use crate::Cover;
+use crate::LFE;
+use crate::Strategies;
+use crate::first_coupled;
+use crate::past_coupled;
+use syntax::Cursor;
+use syntax::Item;
+use syntax::Role;
+use syntax::names;
+ghost use mathlib.Core.Path.{_≡_};
+ghost use mathlib.Core.Bool.{_||_, cond};
+ghost use Prim.Native.Nat.{ℕ, _+_, _*_, _-_, _<_, _≤_};
+ghost use mathlib.Core.List.{List};
+ghost use lib.Dec.{eqb, ltb};
+ghost use lib.IntN.{ℤ, pos};
+ghost use lib.ListN.{replicate};
+ghost use lib.Seq.{sets};
+ghost use Rattle.syntax.specs.Grammar.{for, readIf};
+ghost use Rattle.syntax.specs.Reads.{Reads};
+ghost use Rattle.blocks.specs.Slots as slots;
+ghost use Rattle.blocks.specs.Exponents as grammar;
+ghost use Rattle.blocks.specs.Sound.{SoundRow, SoundUnpacked, SoundExps, Entries, SoundCoupling, SoundStrategies, SoundEnds};
+
+// ---- one set
+
+// Whether an exponent that is 2 too high is outside 0 to 24.
+fn outside(raised: u32) -> bool
+    ensures { λ r. ⌜ r ≡ (ltb raised 2 || ltb 26 raised) ⌝ }
+{
+    raised < 2 || 26 < raised
+}
+
+struct Stepped {
+    exponent: u32,
+    cursor: Cursor,
+}
+
+// The exponent after a difference that is 2 too high: refusal 17 where it is outside 0 to 24.
+fn step(c: Cursor, before: u32, difference: u32) -> Stepped
+    requires { ⌜ (before < 32) × (difference < 32) ⌝ }
+    ensures { λ r. ⌜ ((s : List ℕ) (room : List ℤ) → Reads (grammar.step before difference) s c room (r .exponent) (r .cursor) room) ⌝ }
+    ensures { λ r. ⌜ r .exponent < 32 ⌝ }
+{
+    let raised = before + difference;
+    let cursor = syntax::refuse_if(c, outside(raised), 17);
+    if cursor.stop != 0 {
+        return Stepped {
+            exponent: 0,
+            cursor,
+        };
+    }
+    Stepped {
+        exponent: raised - 2,
+        cursor,
+    }
+}
+
+// The bins that an exponent stands for.
+fn bins_each(strategy: u8) -> usize
+    requires { ⌜ strategy < 4 ⌝ }
+    ensures { λ r. ⌜ r ≡ grammar.binsEach strategy ⌝ }
+{
+    match strategy {
+        2 => 2,
+        3 => 4,
+        _ => 1,
+    }
+}
+
+// An exponent stands for as many bins as the strategy says, from bin `at` on.
+fn repeat(row: &mut [i16; 256], at: usize, strategy: u8, exponent: u32)
+    requires { ⌜ (strategy < 4) × ((at + grammar.binsEach strategy ≤ 256) × (exponent < 32)) ⌝ }
+    ensures { λ _. ⌜ now (row .exit) ≡ sets (now (row .entry)) at (replicate (grammar.binsEach strategy) (pos exponent)) ⌝ }
+{
+    let e = exponent as i16;
+    row[at] = e;
+    if strategy < 2 {
+        return;
+    }
+    row[at + 1] = e;
+    if strategy == 2 {
+        return;
+    }
+    row[at + 2] = e;
+    row[at + 3] = e;
+}
+
+// Three exponents, one after the other.
+fn spread(row: &mut [i16; 256], at: usize, strategy: u8, x: u32, y: u32, z: u32)
+    requires { ⌜ (strategy < 4) × (at + 3 * grammar.binsEach strategy ≤ 256) ⌝ }
+    requires { ⌜ (x < 32) × ((y < 32) × (z < 32)) ⌝ }
+    requires { ⌜ SoundRow (now row) ⌝ }
+    ensures { λ _. ⌜ now (row .exit) ≡ sets (now (row .entry)) at (grammar.spread (grammar.binsEach strategy) x y z) ⌝ }
+    ensures { λ _. ⌜ SoundRow (now (row .exit)) ⌝ }
+{
+    let bins = bins_each(strategy);
+    repeat(row, at, strategy, x);
+    repeat(row, at + bins, strategy, y);
+    repeat(row, at + bins + bins, strategy, z);
+}
+
+struct GroupRead {
+    last: u32,
+    cursor: Cursor,
+}
+
+// Group number n of a set whose groups begin at bin `first`.
+fn group(
+    s: &[u8],
+    rows: &mut [i32],
+    c: Cursor,
+    row: &mut [i16; 256],
+    item: Item,
+    strategy: u8,
+    first: usize,
+    n: usize,
+    last: u32,
+) -> GroupRead
+    requires { ⌜ strategy < 4 ⌝ }
+    requires { ⌜ first + n * (3 * grammar.binsEach strategy) + 3 * grammar.binsEach strategy ≤ 256 ⌝ }
+    requires { ⌜ SoundUnpacked (record { last = last; row = now row }) ⌝ }
+    ensures { λ r. ⌜ Reads (grammar.group item (grammar.binsEach strategy) first n (record { last = last; row = now (row .entry) })) (now (s .entry)) c (now (rows .entry))
+        (record { last = r .last; row = now (row .exit) }) (r .cursor) (now (rows .exit)) ⌝ }
+    ensures { λ r. ⌜ SoundUnpacked (record { last = r .last; row = now (row .exit) }) ⌝ }
+{
+    let at = first + n * (3 * bins_each(strategy));
+    let grouped = syntax::take(s, rows, c, item, 7);
+    let known = syntax::refuse_if(grouped.cursor, 124 < grouped.value, 16);
+    let x = step(known, last, grouped.value / 25);
+    let y = step(x.cursor, x.exponent, grouped.value % 25 / 5);
+    let z = step(y.cursor, y.exponent, grouped.value % 5);
+    spread(row, at, strategy, x.exponent, y.exponent, z.exponent);
+    let cursor = z.cursor;
+    GroupRead {
+        last: z.exponent,
+        cursor,
+    }
+}
+
+// All groups of a set.
+fn groups(
+    s: &[u8],
+    rows: &mut [i32],
+    c: Cursor,
+    row: &mut [i16; 256],
+    item: Item,
+    strategy: u8,
+    first: usize,
+    count: usize,
+    last: u32,
+) -> GroupRead
+    requires { ⌜ strategy < 4 ⌝ }
+    requires { ⌜ first + count * (3 * grammar.binsEach strategy) ≤ 256 ⌝ }
+    requires { ⌜ SoundUnpacked (record { last = last; row = now row }) ⌝ }
+    ensures { λ r. ⌜ Reads (for 0 count (record { last = last; row = now (row .entry) }) (grammar.group item (grammar.binsEach strategy) first)) (now (s .entry)) c (now (rows .entry))
+        (record { last = r .last; row = now (row .exit) }) (r .cursor) (now (rows .exit)) ⌝ }
+    ensures { λ r. ⌜ SoundUnpacked (record { last = r .last; row = now (row .exit) }) ⌝ }
+{
+    let mut exponent = last;
+    let mut cursor = c;
+    for n in 0..count {
+        let next = group(s, rows, cursor, row, item, strategy, first, n, exponent);
+        exponent = next.last;
+        cursor = next.cursor;
+    }
+    GroupRead {
+        last: exponent,
+        cursor,
+    }
+}
+
+// What the groups of a set begin with: the exponent of bin 0; for coupling it is doubled and stands for no bin.
+fn first_exponent(row: &mut [i16; 256], slot: u8, absexp: u32) -> u32
+    requires { ⌜ absexp < 16 ⌝ }
+    ensures { λ r. ⌜ record { last = r; row = now (row .exit) } ≡ grammar.unpackedFirst slot absexp ⌝ }
+    ensures { λ r. ⌜ SoundUnpacked (record { last = r; row = now (row .exit) }) ⌝ }
+{
+    *row = [0i16; 256];
+    if slot == CPL {
+        return 2 * absexp;
+    }
+    row[0] = absexp as i16;
+    absexp
+}
+
+// A name that coupling, LFE and the channels have each of their own.
+fn name_of(slot: u8, coupling: u8, lfe: u8, channel: u8) -> u8
+    ensures { λ r. ⌜ r ≡ cond (eqb slot slots.CPL) coupling (cond (eqb slot slots.LFE) lfe channel) ⌝ }
+{
+    match slot {
+        CPL => coupling,
+        LFE => lfe,
+        _ => channel,
+    }
+}
+
+// The index of a slot's exponents: coupling and LFE have 0.
+fn exponent_index(slot: u8) -> u8
+    ensures { λ r. ⌜ r ≡ grammar.exponentIndex slot ⌝ }
+{
+    if slot < CPL { slot } else { 0 }
+}
+
+// The first bin of the groups: a channel's bin 0 has the first exponent.
+fn first_grouped(slot: u8, start: usize) -> usize
+    ensures { λ r. ⌜ r ≡ grammar.firstGrouped slot start ⌝ }
+{
+    if slot == CPL { start } else { 1 }
+}
+
+// The difference, and 0 where it would be negative: after refusal 9 the coupling range may end before it starts.
+fn less(a: usize, b: usize) -> usize
+    ensures { λ r. ⌜ r ≡ a - b ⌝ }
+{
+    if a < b { 0 } else { a - b }
+}
+
+// The groups of a set: as many as its bins need.
+fn group_count(slot: u8, strategy: u8, start: usize, end: usize) -> usize
+    requires { ⌜ (strategy < 4) × (end < 254) ⌝ }
+    ensures { λ r. ⌜ r ≡ grammar.groupCount slot strategy start end ⌝ }
+{
+    let bins = 3 * bins_each(strategy);
+    match slot {
+        CPL => less(end, start) / bins,
+        LFE => 2,
+        _ => (less(end, 1) + bins - 3) / bins,
+    }
+}
+
+// The exponents of a slot from bin `start` up to, not including, `end`.
+fn exponent_set(
+    s: &[u8],
+    rows: &mut [i32],
+    c: Cursor,
+    row: &mut [i16; 256],
+    blk: u8,
+    slot: u8,
+    strategy: u8,
+    start: usize,
+    end: usize,
+) -> Cursor
+    requires { ⌜ (strategy < 4) × ((start < 254) × (end < 254)) ⌝ }
+    ensures { λ r. ⌜ Reads (grammar.exponentSet blk slot strategy start end) (now (s .entry)) c (now (rows .entry)) (now (row .exit)) r (now (rows .exit)) ⌝ }
+    ensures { λ r. ⌜ SoundRow (now (row .exit)) ⌝ }
+{
+    let index = exponent_index(slot);
+    let name = name_of(slot, names::CPLABSEXP, names::LFEABSEXP, names::ABSEXP);
+    let absexp = syntax::take_nth(s, rows, c, blk, name, index, 4);
+    let last = first_exponent(row, slot, absexp.value);
+    let first = first_grouped(slot, start);
+    let count = group_count(slot, strategy, start, end);
+    let item = Item {
+        name: name_of(slot, names::CPLEXPS, names::LFEEXPS, names::EXPS),
+        role: Role::Plain,
+        block: blk,
+        index,
+    };
+    let unpacked = groups(
+        s,
+        rows,
+        absexp.cursor,
+        row,
+        item,
+        strategy,
+        first,
+        count,
+        last,
+    );
+    unpacked.cursor
+}
+
+// ---- the sets of a block
+
+// The bins that the exponents in force cover, and where reading stands. The exponents themselves are lent.
+pub struct ExponentsRead {
+    pub cover: Cover,
+    pub cursor: Cursor,
+}
+
+// Whether exponents of exactly these bins were sent.
+fn covers(cover: Cover, slot: u8, start: usize, end: usize) -> bool
+    requires { ⌜ slot < 7 ⌝ }
+    ensures { λ r. ⌜ r ≡ grammar.covers cover slot start end ⌝ }
+{
+    let at = slot as usize;
+    cover.sent[at] && (cover.start[at] == start && cover.end[at] == end)
+}
+
+// Exponents of these bins were sent.
+fn covering(slot: u8, start: usize, end: usize, cover: Cover) -> Cover
+    requires { ⌜ slot < 7 ⌝ }
+    ensures { λ r. ⌜ r ≡ grammar.covering slot start end cover ⌝ }
+{
+    let at = slot as usize;
+    let mut next = cover;
+    next.sent[at] = true;
+    next.start[at] = start;
+    next.end[at] = end;
+    next
+}
+
+// New exponents of a slot, or those in force.
+fn slot_exponents(
+    s: &[u8],
+    rows: &mut [i32],
+    c: Cursor,
+    exps: &mut [[i16; 256]; 7],
+    blk: u8,
+    refusal: u8,
+    slot: u8,
+    strategy: u8,
+    start: usize,
+    end: usize,
+    cover: Cover,
+) -> ExponentsRead
+    requires { ⌜ (0 < refusal) × (slot < 7) ⌝ }
+    requires { ⌜ (strategy < 4) × ((start < 254) × (end < 254)) ⌝ }
+    requires { ⌜ SoundExps (now exps) ⌝ }
+    ensures { λ r. ⌜ Reads (grammar.slotExponents blk refusal slot strategy start end (record { cover = cover; exps = now (exps .entry) })) (now (s .entry)) c (now (rows .entry))
+        (record { cover = r .cover; exps = now (exps .exit) }) (r .cursor) (now (rows .exit)) ⌝ }
+    ensures { λ _. ⌜ SoundExps (now (exps .exit)) ⌝ }
+{
+    if strategy == 0 {
+        let cursor = syntax::refuse_if(c, !covers(cover, slot, start, end), refusal);
+        return ExponentsRead { cover, cursor };
+    }
+    let at = slot as usize;
+    let cursor = exponent_set(s, rows, c, &mut exps[at], blk, slot, strategy, start, end);
+    ExponentsRead {
+        cover: covering(slot, start, end, cover),
+        cursor,
+    }
+}
+
+// The same of a slot that is there only where a test holds.
+fn slot_exponents_if(
+    s: &[u8],
+    rows: &mut [i32],
+    c: Cursor,
+    exps: &mut [[i16; 256]; 7],
+    present: bool,
+    blk: u8,
+    refusal: u8,
+    slot: u8,
+    strategy: u8,
+    start: usize,
+    end: usize,
+    cover: Cover,
+) -> ExponentsRead
+    requires { ⌜ (0 < refusal) × (slot < 7) ⌝ }
+    requires { ⌜ (strategy < 4) × ((start < 254) × (end < 254)) ⌝ }
+    requires { ⌜ SoundExps (now exps) ⌝ }
+    ensures { λ r. ⌜ Reads (readIf present (record { cover = cover; exps = now (exps .entry) })
+        (grammar.slotExponents blk refusal slot strategy start end (record { cover = cover; exps = now (exps .entry) }))) (now (s .entry)) c (now (rows .entry))
+        (record { cover = r .cover; exps = now (exps .exit) }) (r .cursor) (now (rows .exit)) ⌝ }
+    ensures { λ _. ⌜ SoundExps (now (exps .exit)) ⌝ }
+{
+    if present {
+        return slot_exponents(
+            s,
+            rows,
+            c,
+            exps,
+            blk,
+            refusal,
+            slot,
+            strategy,
+            start,
+            end,
+            cover,
+        );
+    }
+    ExponentsRead { cover, cursor: c }
+}
+
+// The exponents of a channel; new ones are followed by gainrng.
+fn channel_exponents(
+    s: &[u8],
+    rows: &mut [i32],
+    c: Cursor,
+    exps: &mut [[i16; 256]; 7],
+    blk: u8,
+    chexpstr: [u8; 5],
+    ends: [usize; 5],
+    ch: u8,
+    cover: Cover,
+) -> ExponentsRead
+    requires { ⌜ (ch < 5) × (Entries chexpstr 4 × SoundEnds ends) ⌝ }
+    requires { ⌜ SoundExps (now exps) ⌝ }
+    ensures { λ r. ⌜ Reads (grammar.channelExponents blk chexpstr ends ch (record { cover = cover; exps = now (exps .entry) })) (now (s .entry)) c (now (rows .entry))
+        (record { cover = r .cover; exps = now (exps .exit) }) (r .cursor) (now (rows .exit)) ⌝ }
+    ensures { λ _. ⌜ SoundExps (now (exps .exit)) ⌝ }
+{
+    let at = ch as usize;
+    let strategy = chexpstr[at];
+    let e = slot_exponents(s, rows, c, exps, blk, 14, ch, strategy, 0, ends[at], cover);
+    let gainrng = Item {
+        name: names::GAINRNG,
+        role: Role::Plain,
+        block: blk,
+        index: ch,
+    };
+    let cursor = syntax::note_when(s, rows, e.cursor, strategy != 0, gainrng, 2);
+    let cover = e.cover;
+    ExponentsRead { cover, cursor }
+}
+
+// The exponents of a block: coupling, the channels, LFE. Those in force are lent; their cover goes in by value and comes back.
+pub fn exponents(
+    s: &[u8],
+    rows: &mut [i32],
+    c: Cursor,
+    exps: &mut [[i16; 256]; 7],
+    blk: u8,
+    nfchans: u8,
+    lfeon: bool,
+    coupling: Coupling,
+    strategies: Strategies,
+    ends: [usize; 5],
+    cover: Cover,
+) -> ExponentsRead
+    requires { ⌜ nfchans ≤ 5 ⌝ }
+    requires { ⌜ SoundCoupling coupling × (SoundStrategies strategies × SoundEnds ends) ⌝ }
+    requires { ⌜ SoundExps (now exps) ⌝ }
+    ensures { λ r. ⌜ Reads (grammar.exponents blk nfchans lfeon coupling strategies ends (record { cover = cover; exps = now (exps .entry) })) (now (s .entry)) c (now (rows .entry))
+        (record { cover = r .cover; exps = now (exps .exit) }) (r .cursor) (now (rows .exit)) ⌝ }
+    ensures { λ _. ⌜ SoundExps (now (exps .exit)) ⌝ }
+{
+    let chexpstr = strategies.chexpstr;
+    let start = first_coupled(coupling.cplbegf);
+    let end = past_coupled(coupling.cplendf);
+    let coupled = slot_exponents_if(
+        s,
+        rows,
+        c,
+        exps,
+        coupling.cplinu,
+        blk,
+        13,
+        CPL,
+        strategies.cplexpstr,
+        start,
+        end,
+        cover,
+    );
+    let mut covered = coupled.cover;
+    let mut cursor = coupled.cursor;
+    for ch in 0..nfchans {
+        let next = channel_exponents(s, rows, cursor, exps, blk, chexpstr, ends, ch, covered);
+        covered = next.cover;
+        cursor = next.cursor;
+    }
+    slot_exponents_if(
+        s,
+        rows,
+        cursor,
+        exps,
+        lfeon,
+        blk,
+        15,
+        LFE,
+        strategies.lfeexpstr,
+        0,
+        7,
+        covered,
+    )
+}

@@ -1,0 +1,77 @@
+// The functions that Rust and C call. An exported function can take no enum and nothing that leads to one, so answers go as numbers.
+use ac3::Answer;
+ghost use mathlib.Core.Path.{_≡_};
+ghost use Prim.Native.Nat.{ℕ, _<_, _≤_, min};
+ghost use lib.IntN.{pos};
+ghost use lib.ListN.{length};
+ghost use Rattle.ac3.specs.Frame as frame;
+ghost use Rattle.ferrysprig.specs.Numbers.{held, flag, answerNumbers, told};
+
+// A count as 32 bits hold it.
+fn held(n: usize) -> i32
+    ensures { λ r. ⌜ r ≡ held n ⌝ }
+{
+    if n < 2147483647 { n as i32 } else { 2147483647 }
+}
+
+fn wide(n: u16) -> i32
+    ensures { λ r. ⌜ r ≡ pos n ⌝ }
+{
+    n as i32
+}
+
+fn flag(b: bool) -> i32
+    ensures { λ r. ⌜ r ≡ flag b ⌝ }
+{
+    if b { 1 } else { 0 }
+}
+
+// The 24 numbers of an answer.
+fn numbers(a: Answer) -> [i32; 24]
+    ensures { λ r. ⌜ r ≡ answerNumbers a ⌝ }
+{
+    let summary = a.summary;
+    let header = summary.header;
+    let tally = summary.tally;
+    let starts = tally.starts;
+    let mantissas = tally.mantissas;
+    [
+        wide(a.refusal as u16),
+        held(a.rows),
+        wide(a.bit),
+        held(summary.rows),
+        wide(header.bytes),
+        wide(summary.end),
+        wide(header.bsid as u16),
+        wide(header.acmod as u16),
+        flag(header.lfeon),
+        wide(header.fscod as u16),
+        wide(tally.coupled as u16),
+        wide(starts[0]),
+        wide(starts[1]),
+        wide(starts[2]),
+        wide(starts[3]),
+        wide(starts[4]),
+        wide(starts[5]),
+        wide(mantissas[0]),
+        wide(mantissas[1]),
+        wide(mantissas[2]),
+        wide(mantissas[3]),
+        wide(mantissas[4]),
+        wide(mantissas[5]),
+        flag(tally.coordinates),
+    ]
+}
+
+// Parses the frame at a place of a capture into the lent rows, and writes the answer's numbers.
+#[no_mangle]
+pub extern "C" fn ferrysprig_parse(
+    capture: &[u8],
+    place: usize,
+    rows: &mut [i32],
+    answer: &mut [i32; 24],
+)
+    ensures { λ _. ⌜ (now (answer .exit), now (rows .exit)) ≡ told (frame.answer (now (capture .entry)) place (now (rows .entry))) ⌝ }
+{
+    *answer = numbers(ac3::parse(capture, place, rows));
+}

@@ -96,6 +96,7 @@ pub struct SyncRead {
     pub cursor: Cursor,
 }
 
+// Most places of a capture have no sync word: nothing else is looked at there.
 fn syncinfo(s: &[u8], rows: &mut [i32], c: Cursor) -> SyncRead
     ensures { λ r. ⌜ Reads grammar.syncinfo (now (s .entry)) c (now (rows .entry)) (r .fscod, r .bytes) (r .cursor) (now (rows .exit)) ⌝ }
     ensures { λ r. ⌜ (r .cursor .stop ≡ 0 → r .fscod < 3) ⌝ }
@@ -103,6 +104,13 @@ fn syncinfo(s: &[u8], rows: &mut [i32], c: Cursor) -> SyncRead
     let whole = syntax::frame(s, c, 1, 6);
     let syncword = take(s, rows, whole, Role::Sync, SYNCWORD, 16);
     let found = syntax::refuse_if(syncword.cursor, syncword.value != 0x0B77, 2);
+    if found.stop != 0 {
+        return SyncRead {
+            fscod: 0,
+            bytes: 0,
+            cursor: found,
+        };
+    }
     let crc1 = note(s, rows, found, Role::Crc1, CRC1, 16);
     let fscod = take(s, rows, crc1, Role::FrameSize, FSCOD, 2);
     let frmsizecod = take(s, rows, fscod.cursor, Role::FrameSize, FRMSIZECOD, 6);

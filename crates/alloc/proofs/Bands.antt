@@ -1,20 +1,21 @@
 -- The bands: their ends rise, and a bin's band is the one whose end is the first above it. Assumes nothing.
-use mathlib.Core.Path.{_≡_, refl, ap, sym}
+use mathlib.Core.Path.{_≡_, _∙_, refl, ap, sym}
 use mathlib.Core.Bool.{Bool, true}
 use mathlib.Core.List.{List, [], _∷_}
-use Prim.Native.Nat.{ℕ, zero, suc, _+_, _≤_, _<_, suc-le-suc}
+use Prim.Native.Nat.{ℕ, zero, suc, _+_, _-_, _≤_, _<_, min, max, suc-le-suc}
 use native.Mathlib.Decide.{ℕ-discrete, decLt}
-use native.Mathlib.Nat.{le-refl, le-of-suc-le-suc, not-suc-le-zero}
+use native.Mathlib.Nat.{add-zero, zero-add, le-refl, le-of-suc-le-suc, not-suc-le-zero}
 use native.Mathlib.Numerals.{add-one}
 use native.Mathlib.Omega.{arith}
-use lib.Dec.{T, ltb, ltb→lt}
+use lib.Dec.{T, leb, ltb, eqb, leb→le, ltb→lt, eqb→eq}
+use lib.IntN.{ℤ}
 use lib.ListN.{length, getD}
 use borrow.Author.Tests.{lt-ltb, le-ltb}
-use Rattle.signed.specs.Level.{both}
+use Rattle.signed.specs.Level.{pick, both}
 use Rattle.tables.specs.Tables.{bandEnd}
-use Rattle.alloc.specs.Alloc.{firstAbove, bandOf, startOf, endOf}
+use Rattle.alloc.specs.Alloc.{firstAbove, bandOf, startOf, endOf, bandSum, bandLevel}
 use Rattle.alloc.specs.Band.{InBand}
-use Rattle.alloc.proofs.Rules.{both-left, both-right}
+use Rattle.tables.proofs.Rules.{both-left, both-right}
 
 -- ---- the first entry of a list above b
 
@@ -40,6 +41,11 @@ pub rising : (band : ℕ) → band < 50 → startOf band < endOf band
 unfolding bandEnd startOf endOf
 rising band h = rises-at 0 bandEnd tt band h
 
+-- what a copy of the table has
+pub end-at : (l : List ℕ) (band : ℕ) → l ≡ bandEnd → getD l band 0 ≡ endOf band
+unfolding endOf
+end-at l band e = ap (λ (m : List ℕ). getD m band 0) e
+
 -- a band starts where the one before it ends
 start-next : (band : ℕ) → startOf (suc band) ≡ endOf band
 unfolding startOf endOf
@@ -48,13 +54,22 @@ start-next band = refl
 pub start-after : (band : ℕ) → startOf (band + 1) ≡ endOf band
 start-after band = rw (add-one band) (start-next band)
 
+pub start-at : (l : List ℕ) (band : ℕ) → l ≡ bandEnd → 0 < band → getD l (band - 1) 0 ≡ startOf band
+start-at l band e h =
+    let back : band - 1 + 1 ≡ band = omega arith in
+    end-at l (band - 1) e ∙ sym (start-after (band - 1)) ∙ ap startOf back
+
 pub start-zero : startOf 0 ≡ 0
 unfolding startOf
 start-zero = refl
 
-last-end : endOf 49 ≡ 253
+pub last-end : endOf 49 ≡ 253
 unfolding bandEnd endOf
 last-end = refl
+
+pub last-start : startOf 50 ≡ 253
+unfolding bandEnd startOf
+last-start = refl
 
 -- a band that ends at or before a bin is not the last one
 pub not-last : (bin band : ℕ) → band < 50 → endOf band ≤ bin → bin < 253 → band < 49
@@ -75,13 +90,41 @@ start-mono j (suc k) p h = by (ℕ-discrete j (suc k)) (start-mono j k)
 pub end-mono : (j k : ℕ) → j ≤ k → k < 50 → endOf j ≤ endOf k
 end-mono j k p h = rw (← start-next j, ← start-next k) (start-mono (suc j) (suc k) (omega arith) (omega arith))
 
+-- ---- bands of 1, 3, 6, 12 and 24 bins
+
+abbrev widthOf : ℕ → ℕ
+widthOf band = pick (ltb band 28) 1 (pick (ltb band 35) 3 (pick (ltb band 41) 6 (pick (ltb band 45) 12 24)))
+
+-- each band, counted from i, is as wide as that; x is where the first one starts
+abbrev regular : ℕ → ℕ → List ℕ → Bool
+regular i x [] = true
+regular i x (y ∷ ys) = both (eqb y (x + widthOf i)) (regular (suc i) y ys)
+
+regular-at : (i x : ℕ) (ys : List ℕ) → T (regular i x ys) → (k : ℕ) → k < length ys → getD ys k 0 ≡ getD (x ∷ ys) k 0 + widthOf (i + k)
+regular-at i x [] t k h = absurd (not-suc-le-zero h)
+regular-at i x (y ∷ ys) t zero h = rw add-zero (eqb→eq y (x + widthOf i) (both-left (eqb y (x + widthOf i)) (regular (suc i) y ys) t))
+regular-at i x (y ∷ ys) t (suc k) h =
+    let next : suc i + k ≡ i + suc k = omega arith in
+    regular-at (suc i) y ys (both-right (eqb y (x + widthOf i)) (regular (suc i) y ys) t) k (le-of-suc-le-suc h) ∙ ap (λ (n : ℕ). getD (y ∷ ys) k 0 + widthOf n) next
+
+pub width : (band : ℕ) → band < 50 → endOf band ≡ startOf band + widthOf band
+unfolding bandEnd startOf endOf
+width band h = regular-at 0 0 bandEnd tt band h ∙ ap (λ (n : ℕ). getD (0 ∷ bandEnd) band 0 + widthOf n) (zero-add band)
+
+-- below 28 a band is a bin
+pub narrow : (band : ℕ) → band < 28 → (startOf band ≡ band) × (endOf band ≡ band + 1)
+narrow zero h = (start-zero, width 0 (omega arith) ∙ ap (λ (n : ℕ). n + 1) start-zero)
+narrow (suc band) h =
+    let start : startOf (suc band) ≡ suc band = start-next band ∙ narrow band (omega arith) .1 ∙ add-one band in
+    (start, width (suc band) (omega arith) ∙ rw (start, lt-ltb (suc band) 28 h))
+
 -- ---- a bin's band
 
 band-is : (bin band : ℕ) → band < 50 → ((j : ℕ) → j < band → endOf j ≤ bin) → bin < endOf band → bandOf bin ≡ band
 unfolding bandEnd bandOf endOf
 band-is bin band h low high = first-is bandEnd bin band h low high
 
-band-at : (bin band : ℕ) → band < 50 → startOf band ≤ bin → bin < endOf band → bandOf bin ≡ band
+pub band-at : (bin band : ℕ) → band < 50 → startOf band ≤ bin → bin < endOf band → bandOf bin ≡ band
 band-at bin band h low high =
     band-is bin band h (λ j p. omega (arith, start-next j, start-mono (suc j) band (omega arith) (omega arith))) high
 
@@ -94,3 +137,45 @@ in-order a b j k p q h = by (decLt k j)
     by : Dec (k < j) → j ≤ k
     by (yes less) = absurd (omega (arith, start-mono (k + 1) j (omega arith) (omega arith), start-after k))
     by (no more) = omega arith
+
+-- every bin has its band, by one computed test
+abbrev contained : ℕ → Bool
+contained bin = both (ltb (bandOf bin) 50) (both (leb (startOf (bandOf bin)) bin) (ltb bin (endOf (bandOf bin))))
+
+abbrev all-contained : ℕ → Bool
+all-contained zero = true
+all-contained (suc n) = both (contained n) (all-contained n)
+
+contained-at : (n : ℕ) → T (all-contained n) → (bin : ℕ) → bin < n → T (contained bin)
+contained-at zero t bin h = absurd (not-suc-le-zero h)
+contained-at (suc n) t bin h = by (contained-at n (both-right (contained n) (all-contained n) t) bin) (ℕ-discrete bin n)
+  where
+    by : (bin < n → T (contained bin)) → Dec (bin ≡ n) → T (contained bin)
+    by before (yes same) = rw same (both-left (contained n) (all-contained n) t)
+    by before (no other) = before (omega arith)
+
+test : T (all-contained 253)
+unfolding bandEnd bandOf startOf endOf
+test = tt
+
+pub band-of : (bin : ℕ) → bin < 253 → InBand bin (bandOf bin)
+band-of bin h =
+    let t = contained-at 253 test bin h in
+    let rest = both-right (ltb (bandOf bin) 50) (both (leb (startOf (bandOf bin)) bin) (ltb bin (endOf (bandOf bin)))) t in
+    record {
+      is = refl;
+      small = ltb→lt (bandOf bin) 50 (both-left (ltb (bandOf bin) 50) (both (leb (startOf (bandOf bin)) bin) (ltb bin (endOf (bandOf bin)))) t);
+      low = leb→le (startOf (bandOf bin)) bin (both-left (leb (startOf (bandOf bin)) bin) (ltb bin (endOf (bandOf bin))) rest);
+      high = ltb→lt bin (endOf (bandOf bin)) (both-right (leb (startOf (bandOf bin)) bin) (ltb bin (endOf (bandOf bin))) rest);
+    }
+
+-- ---- levels of bands
+
+-- a band of one bin has that bin's level
+pub narrow-level : (level : ℕ → ℤ) (start end band : ℕ) → band < 28 → start ≤ band → band < end → level band ≡ bandLevel level start end band
+unfolding bandLevel bandSum
+narrow-level level start end band h p q =
+    let n = narrow band h in
+    let first : max start (startOf band) ≡ band = omega arith in
+    let none : min end (endOf band) - 1 - band ≡ 0 = omega arith in
+    rw (first, none)

@@ -1,25 +1,23 @@
 -- How far the definition's levels are from 0: bounds on the definition, which the loops' steps cite. Assumes nothing.
+use mathlib.Core.Path.{_≡_, refl}
 use mathlib.Core.Bool.{not}
 use mathlib.Core.List.{List}
 use Prim.Native.Nat.{ℕ, zero, suc, _+_, _*_, _/_, _^_, _≤_, _<_, min}
 use native.Mathlib.Omega.{arith}
-use native.Mathlib.Nat.{lt-of-lt-of-le}
-use lib.Dec.{leb, ltb, lit<}
-use lib.IntN.{ℤ, pos, natAbs, _+ℤ_, _-ℤ_, _*ℤ_}
+use native.Mathlib.Nat.{lt-of-lt-of-le, pow-succ'}
+use native.Mathlib.Numerals.{add-one}
+use lib.Dec.{T, leb, ltb, lit<, leb→le}
+use lib.IntN.{ℤ, pos, negsuc, natAbs, _+ℤ_, _-ℤ_, _*ℤ_}
 use lib.ListN.{getD}
 use lib.Signed.{mag, ltZ, _≤ℤ_}
 use Rattle.signed.specs.Level.{maxZ, eqZ, both}
-use Rattle.signed.specs.Bound.{Below, bounds, mag-add, mag-pick, below-128, below-lit, below-pick, below-fall}
+use Rattle.signed.specs.Bound.{Below, bounds, mag-add, mag-pick, below-is, below-u16, below-more, below-add, below-shr, below-128, below-lit, below-pick, below-fall}
 use Rattle.signed.specs.Order.{plus-mono, plus-above}
 use Rattle.tables.specs.Tables.{logAdd}
-use Rattle.alloc.specs.Alloc.{logadd, lowcomp, bandSum, lfeLast, lowAfter, fallTo}
-use Rattle.alloc.specs.Delta.{deltaOf, deltaIn, deltaSum}
-use Rattle.alloc.proofs.Rules.{falls-le}
-
--- what the table adds to the larger of two levels
-pub added : (at : ℕ) → getD logAdd at 0 ≤ 64
-unfolding logAdd
-added at = falls-le 64 logAdd tt at
+use Rattle.alloc.specs.Steps.{Exponents, relative, relativeAt}
+use Rattle.alloc.specs.Alloc.{at, level, levelAt, logadd, lowcomp, bandSum, lfeLast, lowAfter, fallTo, overKnee, kept, threshold}
+use Rattle.alloc.specs.Delta.{deltaOf}
+use Rattle.tables.proofs.Rule.{log-add-at-most}
 
 -- the sum is between the larger level and 64 more
 pub logadd-above : (a b : ℤ) → maxZ a b ≤ℤ logadd a b
@@ -28,11 +26,15 @@ logadd-above a b = plus-above (maxZ a b) _
 
 pub logadd-close : (a b : ℤ) → logadd a b ≤ℤ (maxZ a b +ℤ pos 64)
 unfolding logadd
-logadd-close a b = plus-mono (maxZ a b) _ 64 (added (min (natAbs (a -ℤ b) / 2) 255))
+logadd-close a b = plus-mono (maxZ a b) _ 64 (log-add-at-most (min (natAbs (a -ℤ b) / 2) 255))
 
 logadd-mag : (a b : ℤ) {m : ℕ} → mag a < m → mag b < m → mag (logadd a b) < m + 65
 unfolding logadd
-logadd-mag a b p q = mag-add (maxZ a b) _ (mag-pick (ltZ a b) b a q p) (omega (arith, added (min (natAbs (a -ℤ b) / 2) 255)))
+logadd-mag a b p q = mag-add (maxZ a b) _ (mag-pick (ltZ a b) b a q p) (omega (arith, log-add-at-most (min (natAbs (a -ℤ b) / 2) 255)))
+
+pub logadd-below : {k : ℕ} {a b : ℤ} → Below k a → Below k b → T (leb 65 (2 ^ k)) → Below (k + 1) (logadd a b)
+logadd-below {k} {a} {b} p q t =
+    record { below = rw (add-one k, pow-succ') (lt-of-lt-of-le (logadd-mag a b (p .below) (q .below)) (omega (arith, leb→le 65 (2 ^ k) t))) }
 
 band-mag : (level : ℕ → ℤ) {m : ℕ} → ((bin : ℕ) → mag (level bin) < m) → (first n : ℕ) → mag (bandSum level first n) < m + 65 * n
 unfolding bandSum
@@ -42,6 +44,23 @@ band-mag level {m} all first (suc n) =
 
 pub band-below : (level : ℕ → ℤ) → ((bin : ℕ) → Below 13 (level bin)) → (first n : ℕ) → n ≤ 256 → Below 15 (bandSum level first n)
 band-below level all first n p = record { below = omega (arith, band-mag level (λ bin. all bin .below) first n) }
+
+-- a number between 0 and a top
+pub natural : {top : ℕ} (z : ℤ) → pos 0 ≤ℤ z → z ≤ℤ pos top → (z ≡ pos (natAbs z)) × (natAbs z ≤ top)
+natural {top} (pos n) low high = (refl, leb→le n top (high .le))
+natural (negsuc n) low high = absurd (low .le)
+
+-- an exponent, and the level that it stands for
+exponent-below : (z : ℤ) → pos 0 ≤ℤ z → z ≤ℤ pos 24 → Below 5 z
+exponent-below z low high = let e = natural z low high in below-is (e .0) (record { below = omega arith })
+
+pub relative-below : (exponents : List ℤ) → Exponents exponents → (bin : ℕ) → Below 13 (relativeAt exponents bin)
+unfolding relative
+relative-below exponents all bin = let e = exponent-below (at exponents bin) (all bin .0) (all bin .1) in search (bounds, below-128) depth 12
+
+pub level-below : (exponents : List ℤ) → Exponents exponents → (bin : ℕ) → Below 13 (levelAt exponents bin)
+unfolding level
+level-below exponents all bin = let e = exponent-below (at exponents bin) (all bin .0) (all bin .1) in search (bounds, below-128) depth 12
 
 pub fall-below : {k : ℕ} (leak : ℤ) (decay : ℕ) (floor : ℤ) → Below k leak → Below k floor → Below k (fallTo leak decay floor)
 unfolding fallTo
@@ -61,23 +80,22 @@ unfolding lowAfter
 low-below level bands band low p =
     below-pick (both (ltb band 22) (not (lfeLast bands band))) (lowcomp-below low (level band) (level (band + 1)) band p) p
 
-delta-of-mag : (code : ℕ) → code < 8 → mag (deltaOf code) < 2 ^ 11
+pub knee-below : (excite here : ℤ) (knee : ℕ) → knee < 2 ^ 16 → Below 18 excite → Below 15 here → Below 19 (overKnee excite here knee)
+unfolding overKnee
+knee-below excite here knee k p q =
+    let n = below-u16 knee k in
+    below-pick (ltZ here (pos knee)) (search (bounds, below-shr) depth 12) (below-more p tt)
+
+kept-below : (z : ℤ) → Below 13 (kept z)
+unfolding kept
+kept-below z = record { below = omega arith }
+
+pub threshold-below : (mask snr floor : ℤ) → Below 11 floor → Below 14 (threshold mask snr floor)
+unfolding threshold
+threshold-below mask snr floor p = below-add {k = 14} (kept-below (maxZ (mask -ℤ snr -ℤ floor) (pos 0))) (below-more p tt) tt
+
+pub delta-of-below : (code : ℕ) → code < 256 → Below 16 (deltaOf code)
 unfolding deltaOf
-delta-of-mag code p =
-    let small : Below 3 (pos code) = record { below = p } in
-    below-pick (leb 4 code) {k = 11} {a = (pos code -ℤ pos 3) *ℤ pos 128} {b = (pos code -ℤ pos 4) *ℤ pos 128} (search (bounds, below-128) depth 12) (search (bounds, below-128) depth 12) .below
-
-delta-in-mag : (first last code band : ℕ) → code < 8 → mag (deltaIn first last code band) < 2 ^ 11
-unfolding deltaIn
-delta-in-mag first last code band p = mag-pick (both (leb first band) (ltb band last)) (deltaOf code) (pos 0) (delta-of-mag code p) (lit< tt)
-
-delta-mag : (segments : List ℕ) (band : ℕ) → ((n : ℕ) → getD segments (n * 3 + 2) 0 < 8) → (n : ℕ) → mag (deltaSum segments band n) < 1 + 2 ^ 11 * n
-unfolding deltaSum
-delta-mag segments band codes zero = omega arith
-delta-mag segments band codes (suc n) =
-    lt-of-lt-of-le
-    (mag-add (deltaSum segments band n) _ (delta-mag segments band codes n) (delta-in-mag _ _ _ band (codes n)))
-    (omega arith)
-
-pub delta-below : (segments : List ℕ) (band : ℕ) → ((n : ℕ) → getD segments (n * 3 + 2) 0 < 8) → (n : ℕ) → n ≤ 8 → Below 15 (deltaSum segments band n)
-delta-below segments band codes n p = record { below = omega (arith, delta-mag segments band codes n) }
+delta-of-below code p =
+    let small : Below 8 (pos code) = record { below = p } in
+    below-pick (leb 4 code) {k = 16} {a = (pos code -ℤ pos 3) *ℤ pos 128} {b = (pos code -ℤ pos 4) *ℤ pos 128} (search (bounds, below-128) depth 12) (search (bounds, below-128) depth 12)

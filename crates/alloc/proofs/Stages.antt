@@ -1,59 +1,87 @@
--- How far each stage of the allocation is from 0, whatever the input. Assumes nothing.
+-- The stages of the code are those of the definition, and how far each is from 0. Assumes nothing.
+use mathlib.Core.Path.{_≡_, _∙_, refl, sym, ap, ap₂}
 use mathlib.Core.List.{List}
-use Prim.Native.Nat.{ℕ, _+_, _-_, _*_, _≤_, _<_, _^_, min, max}
+use Prim.Native.Nat.{ℕ, zero, suc, _+_, _-_, _*_, _≤_, _<_, _^_, min, max}
 use native.Mathlib.Omega.{arith}
-use lib.Dec.{leb, ltb, lit<}
-use lib.IntN.{ℤ, pos, _-ℤ_}
+use lib.Dec.{leb, ltb}
+use lib.IntN.{ℤ, pos, _+ℤ_}
 use lib.ListN.{getD}
 use lib.Pow.{pow-pos}
-use lib.Signed.{ltZ}
-use Rattle.signed.specs.Level.{both, maxZ}
-use Rattle.signed.specs.Bound.{Below, bounds, below-u16, below-add, below-more, below-pick, below-max, below-shr, below-128}
+use Rattle.signed.specs.Level.{both}
+use Rattle.signed.specs.Bound.{Below, below-lit, below-pick, below-down, below-sub}
 use Rattle.tables.specs.Tables.{hearing}
-use Rattle.alloc.specs.Alloc.{within, level, levelAt, psd, startOf, endOf, bandLevel, bandPsd, overKnee, maskOf, kept, threshold}
-use Rattle.alloc.specs.Excite.{Bounded, maskAt, masks}
-use Rattle.alloc.specs.Allocation.{thresholdAt, thresholds}
+use Rattle.alloc.specs.Alloc.{at, within, level, levelAt, psd, bandOf, startOf, endOf, bandSum, bandLevel, maskOf, threshold}
+use Rattle.alloc.specs.Allocation.{bandsOf, masksOf, thresholdAt, thresholdsOf}
+use Rattle.alloc.specs.Band.{InBand}
+use Rattle.alloc.specs.Delta.{deltaSum}
+use Rattle.alloc.specs.Excite.{Bounded, exciteAt, maskAt}
+use Rattle.alloc.specs.Steps.{Exponents, stepOf, stepAt, stepBy}
 use Rattle.alloc.specs.declared.Gains.{Gains}
 use Rattle.alloc.specs.declared.Leak.{Leak}
-use Rattle.alloc.proofs.Rules.{small-at}
-use Rattle.alloc.proofs.Bounded.{band-below}
+use Rattle.alloc.proofs.Bands.{rising, in-order, start-mono, end-mono}
+use Rattle.alloc.proofs.Bounded.{band-below, level-below, threshold-below}
+use Rattle.alloc.proofs.Filled.{filled-in, filled-same, everywhere}
 use Rattle.alloc.proofs.Leaks.{excite-below}
 
-within-below : {k : ℕ} (from to : ℕ) (g : ℕ → ℤ) → ((j : ℕ) → Below k (g j)) → (j : ℕ) → Below k (within (pos 0) from to g j)
+-- what is near 0 inside a range and 0 outside is near 0
+pub within-below : {k : ℕ} (from to : ℕ) (g : ℕ → ℤ) → ((j : ℕ) → Below k (g j)) → (j : ℕ) → Below k (within (pos 0) from to g j)
 within-below from to g all j = below-pick (both (leb from j) (ltb j to)) (all j) (record { below = pow-pos _ })
 
-pub psd-below : (exponents : List ℤ) (start end : ℕ) → ((k : ℕ) → Below 5 (getD exponents k (pos 0))) → (bin : ℕ) → Below 13 (psd exponents start end bin)
-unfolding level
-psd-below exponents start end all bin = within-below start end (levelAt exponents) (λ k. let e = all k in search (bounds, below-128) depth 12) bin
+-- ---- 6.2.2.3
 
-pub bands-below : (level : ℕ → ℤ) (start end : ℕ) → end ≤ 253 → ((bin : ℕ) → Below 13 (level bin)) → (band : ℕ) → Below 15 (bandPsd level start end band)
+sum-same : (f g : ℕ → ℤ) (first n : ℕ) → ((k : ℕ) → first ≤ k → k ≤ first + n → f k ≡ g k) → bandSum f first n ≡ bandSum g first n
+unfolding bandSum
+sum-same f g first zero same = same first (omega arith) (omega arith)
+sum-same f g first (suc n) same =
+    let last = same (first + suc n) (omega arith) (omega arith) in
+    rw (sum-same f g first n (λ k p q. same k p (omega arith)), last)
+
+module _ (exponents : List ℤ) (start end first last : ℕ) (low : InBand start first) (high : InBand (end - 1) (last - 1)) (some : 0 < last) (more : start < end) where
+  -- the levels of a band's bins are those of the range
+  in-range : (band : ℕ) → first ≤ band → band < last → bandLevel (levelAt exponents) start end band ≡ bandLevel (psd exponents start end) start end band
+  unfolding bandLevel
+  in-range band p q =
+      let wide = rising band (omega arith) in
+      let from = start-mono band (last - 1) (omega arith) (omega arith) in
+      let to = end-mono first band (omega arith) (omega arith) in
+      sum-same _ _ _ _ (λ k a b. sym (filled-in (levelAt exponents) (λ _. pos 0) start end k (omega arith) (omega arith)))
+
+  pub bands-are : within (pos 0) first last (bandLevel (levelAt exponents) start end) ≡ bandsOf exponents start end
+  bands-are =
+      let end-is : last ≡ bandOf (end - 1) + 1 = omega (arith, high .is) in
+      everywhere (filled-same (bandLevel (levelAt exponents) start end) (bandLevel (psd exponents start end) start end) (λ _. pos 0) first last in-range)
+      ∙ ap₂ (λ (a b : ℕ). within (pos 0) a b (bandLevel (psd exponents start end) start end)) (low .is) end-is
+
+pub bands-below : (exponents : List ℤ) (start end first last : ℕ) → end ≤ 253 → Exponents exponents → (band : ℕ) → Below 15 (within (pos 0) first last (bandLevel (levelAt exponents) start end) band)
 unfolding bandLevel
-bands-below level start end h all = within-below _ _ (bandLevel level start end) one
+bands-below exponents start end first last h all = within-below first last (bandLevel (levelAt exponents) start end) one
   where
-    one : (band : ℕ) → Below 15 (bandLevel level start end band)
-    one band = band-below level all (max start (startOf band)) (min end (endOf band) - 1 - max start (startOf band)) (omega arith)
+    one : (band : ℕ) → Below 15 (bandLevel (levelAt exponents) start end band)
+    one band = band-below (levelAt exponents) (level-below exponents all) (max start (startOf band)) (min end (endOf band) - 1 - max start (startOf band)) (omega arith)
 
-knee-below : (excite here : ℤ) (knee : ℕ) → knee < 2 ^ 16 → Below 18 excite → Below 15 here → Below 19 (overKnee excite here knee)
-unfolding overKnee
-knee-below excite here knee k p q =
-    let n = below-u16 knee k in
-    below-pick (ltZ here (pos knee)) (search (bounds, below-shr) depth 12) (below-more p tt)
+-- ---- 6.2.2.5 to 6.2.2.7
 
-pub masks-below : (g : Gains) → (g .fgain < 2 ^ 16) × (g .sgain < 2 ^ 16) → (level : ℕ → ℤ) → ((k : ℕ) → Below 15 (level k)) → (first bands : ℕ) (l : Leak) → Bounded l → (knee fscod : ℕ) → knee < 2 ^ 16 → (band : ℕ) → Below 19 (masks g level first bands l knee fscod band)
-unfolding maskOf hearing
-masks-below g fits level all first bands l b knee fscod k =
-    within-below first bands (maskAt g level first bands l knee fscod)
-    (λ band. below-max (knee-below _ _ knee k (excite-below g fits level all bands first l b (band - first)) (all band))
-    (below-more {j = 12} (record { below = small-at 4096 hearing (lit< tt) tt (50 * fscod + band) }) tt))
+module _ (exponents : List ℤ) (start end first last : ℕ) (g : Gains) (knee fscod : ℕ) (l : Leak) (snr floor : ℤ) (segments : List ℕ) (count : ℕ) where
+  pub step-is : (excite delta : ℕ → ℤ) (band : ℕ) → first ≡ bandOf start → last ≡ bandOf (end - 1) + 1 → first ≤ band → band < last
+      → excite band ≡ exciteAt g (bandsOf exponents start end) last first l band → delta band ≡ deltaSum segments band count
+      → stepBy excite (bandsOf exponents start end) delta knee fscod snr floor band ≡ stepOf (thresholdsOf exponents start end g knee fscod l snr floor segments count band)
+  unfolding stepAt maskOf
+  step-is excite delta band e f p q a b =
+      let bands = bandsOf exponents start end in
+      let masks = masksOf exponents start end g knee fscod l in
+      let here = rw (e, f) at a in
+      let mask : masks band ≡ maskOf (excite band) (bands band) knee fscod band =
+      filled-in (maskAt g bands (bandOf start) (bandOf (end - 1) + 1) l knee fscod) (λ _. pos 0) (bandOf start) (bandOf (end - 1) + 1) band (omega arith) (omega arith)
+      ∙ ap (λ (z : ℤ). maskOf z (bands band) knee fscod band) (sym here) in
+      let limit : thresholdsOf exponents start end g knee fscod l snr floor segments count band ≡ threshold (maskOf (excite band) (bands band) knee fscod band +ℤ delta band) snr floor =
+      filled-in (thresholdAt masks segments count snr floor) (λ _. pos 0) (bandOf start) (bandOf (end - 1) + 1) band (omega arith) (omega arith)
+      ∙ ap₂ (λ (m d : ℤ). threshold (m +ℤ d) snr floor) mask (sym b) in
+      ap stepOf (sym limit)
 
-pub kept-below : (z : ℤ) → Below 13 (kept z)
-unfolding kept
-kept-below z = record { below = omega arith }
-
-pub threshold-below : (mask snr floor : ℤ) → Below 20 floor → Below 22 (threshold mask snr floor)
-unfolding threshold
-threshold-below mask snr floor p = below-more (below-add {k = 21} (below-more (kept-below (maxZ (mask -ℤ snr -ℤ floor) (pos 0))) tt) p tt) tt
-
-pub thresholds-below : (mask : ℕ → ℤ) (segments : List ℕ) (count : ℕ) (snr floor : ℤ) (first last : ℕ) → Below 20 floor → (band : ℕ) → Below 22 (thresholds mask segments count snr floor first last band)
-thresholds-below mask segments count snr floor first last p =
-    within-below first last (thresholdAt mask segments count snr floor) (λ band. threshold-below _ snr floor p)
+  -- a step has few bits, whatever the input
+  pub step-below : Below 11 floor → (band : ℕ) → bandOf start ≤ band → band < bandOf (end - 1) + 1 → Below 10 (stepOf (thresholdsOf exponents start end g knee fscod l snr floor segments count band))
+  unfolding stepOf
+  step-below h band p q =
+      let masks = masksOf exponents start end g knee fscod l in
+      rw (filled-in (thresholdAt masks segments count snr floor) (λ _. pos 0) (bandOf start) (bandOf (end - 1) + 1) band p q)
+      (below-down 5 (below-sub {k = 15} (below-lit tt) (threshold-below (masks band +ℤ deltaSum segments band count) snr floor h) tt))

@@ -31,13 +31,21 @@ snrOffset coarse fine = ((pos coarse -ℤ pos 15) *ℤ pos 16 +ℤ pos fine) *�
 unfoldable pub level : ℤ → ℤ
 level exponent = pos 3072 -ℤ exponent *ℤ pos 128
 
+-- what a list of levels has at a place
+abbrev pub at : List ℤ → ℕ → ℤ
+at l k = getD l k (pos 0)
+
+-- g from one place up to another, and what was there before outside
+abbrev pub filled : {A : Type 0} → ℕ → ℕ → (ℕ → A) → (ℕ → A) → ℕ → A
+filled from to g before k = pick (both (leb from k) (ltb k to)) (g k) (before k)
+
 -- g from one place up to another, and d outside
 abbrev pub within : {A : Type 0} → A → ℕ → ℕ → (ℕ → A) → ℕ → A
-within d from to g k = pick (both (leb from k) (ltb k to)) (g k) d
+within d from to g = filled from to g (λ _. d)
 
 -- 6.2.2.2: the levels of the bins of a range, by their exponents
 abbrev pub levelAt : List ℤ → ℕ → ℤ
-levelAt exponents bin = level (getD exponents bin (pos 0))
+levelAt exponents bin = level (at exponents bin)
 
 abbrev pub psd : List ℤ → ℕ → ℕ → ℕ → ℤ
 psd exponents start end = within (pos 0) start end (levelAt exponents)
@@ -50,9 +58,12 @@ kept z = pos (natAbs z / 32 % 256 * 32)
 unfoldable pub threshold : ℤ → ℤ → ℤ → ℤ
 threshold mask snr floor = kept (maxZ (mask -ℤ snr -ℤ floor) (pos 0)) +ℤ floor
 
--- 6.2.2.7: a bin's bit allocation pointer
+-- 6.2.2.7: the address of a bin's pointer, and the pointer
+unfoldable pub addressOf : ℤ → ℤ → ℕ
+addressOf level threshold = clampZ (shrZ (level -ℤ threshold) 32) 63
+
 unfoldable pub bapOf : ℤ → ℤ → ℕ
-bapOf level threshold = getD bap (clampZ (shrZ (level -ℤ threshold) 32) 63) 0
+bapOf level threshold = getD bap (addressOf level threshold) 0
 
 -- 6.2.2.3: the levels from one bin on, n more after it, added up
 unfoldable pub bandSum : (ℕ → ℤ) → ℕ → ℕ → ℤ

@@ -1,7 +1,9 @@
 pub mod Alloc
 pub mod Band
+pub mod Fills
 pub mod Excite
 pub mod Delta
 pub mod Allocation
-pub mod Values
 pub mod Listed
+pub mod Steps
+pub mod Values

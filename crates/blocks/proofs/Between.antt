@@ -8,7 +8,7 @@ use native.Mathlib.Omega.{arith}
 use lib.ListN.{length, getD, set, replicate}
 use lib.Seq.{getD-set-same, getD-set-other}
 use Rattle.alloc.specs.Listed.{from}
-use Rattle.alloc.proofs.Within.{everywhere, cleared}
+use Rattle.alloc.proofs.Filled.{everywhere, cleared}
 use Rattle.blocks.specs.Counts.{between}
 
 module _ {A : Type 0} (d : A) (l : List A) {i last : ℕ} where

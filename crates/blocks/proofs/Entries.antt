@@ -5,11 +5,11 @@ use native.Mathlib.Nat.{add-zero, add-suc, suc-add}
 use native.Mathlib.Omega.{arith}
 use mathlib.Core.Path.{_≡_, sym, _∙_}
 use mathlib.Core.List.{List, [], _∷_, _++_, append-assoc}
-use lib.Dec.{lit<, lit≤}
+use lib.Dec.{le→leb, lit<, lit≤}
 use lib.IntN.{ℤ, pos}
+use lib.Signed.{_≤ℤ_}
 use lib.ListN.{length, getD, set, replicate, length-replicate}
 use lib.Seq.{sets, getD-set-other}
-use Rattle.signed.specs.Bound.{Below}
 use Rattle.blocks.specs.declared.Deltas.{Deltas}
 use Rattle.blocks.specs.Delta.{noDeltas}
 use Rattle.blocks.specs.Sound.{SoundRow, SoundExps, SoundCodes, SoundSegments, SoundDeltas}
@@ -55,21 +55,25 @@ sets-three n l at x y z =
 
 -- ---- exponents
 
-small : {n : ℕ} → n < 32 → Below 5 (pos n)
-small h = record { below = h }
+-- what a set holds
+abbrev Exponent : ℤ → Type 0
+Exponent e = (pos 0 ≤ℤ e) × (e ≤ℤ pos 24)
+
+small : {n : ℕ} → n < 25 → Exponent (pos n)
+small {n} h = (record { le = le→leb 0 n (omega arith) }, record { le = le→leb n 24 (omega arith) })
 
 pub zeros : SoundRow (replicate 256 (pos 0))
-zeros bin = entry-replicate (Below 5) (pos 0) 256 bin (pos 0) (small (lit< tt)) (small (lit< tt))
+zeros bin = entry-replicate Exponent (pos 0) 256 bin (pos 0) (small (lit< tt)) (small (lit< tt))
 
 -- where a frame begins
 pub exps-none : SoundExps (replicate 7 (replicate 256 (pos 0)))
 exps-none slot = entry-replicate SoundRow [] 7 slot (replicate 256 (pos 0)) (λ bin. small (lit< tt)) zeros
 
-pub row-set : (row : List ℤ) (at e : ℕ) → SoundRow row → e < 32 → SoundRow (set row at (pos e))
-row-set row at e h k bin = entry-set (Below 5) (pos 0) row bin at (pos e) (h bin) (small k)
+pub row-set : (row : List ℤ) (at e : ℕ) → SoundRow row → e < 25 → SoundRow (set row at (pos e))
+row-set row at e h k bin = entry-set Exponent (pos 0) row bin at (pos e) (h bin) (small k)
 
-pub row-sets : (row : List ℤ) (at n e : ℕ) {next : List ℤ} → next ≡ sets row at (replicate n (pos e)) → SoundRow row → e < 32 → SoundRow next
-row-sets row at n e q h k = rw q (λ bin. entry-sets (Below 5) (pos 0) n row bin at (pos e) (h bin) (small k))
+pub row-sets : (row : List ℤ) (at n e : ℕ) {next : List ℤ} → next ≡ sets row at (replicate n (pos e)) → SoundRow row → e < 25 → SoundRow next
+row-sets row at n e q h k = rw q (λ bin. entry-sets Exponent (pos 0) n row bin at (pos e) (h bin) (small k))
 
 pub exps-set : (exps : List (List ℤ)) (slot : ℕ) (row : List ℤ) → SoundExps exps → SoundRow row → SoundExps (set exps slot row)
 exps-set exps slot row h k i = entry-set SoundRow [] exps i slot row (h i) k

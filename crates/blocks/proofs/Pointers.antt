@@ -12,11 +12,11 @@ use Rattle.signed.specs.Bound.{Below, bounds, below-16, neg-pos}
 use Rattle.signed.specs.Level.{pick, both, clampZ}
 use Rattle.tables.specs.Tables.{bap, knee, floor}
 use Rattle.tables.proofs.Rules.{small-at}
-use Rattle.alloc.specs.Alloc.{snrOffset, psd, bandOf, bapOf}
+use Rattle.alloc.specs.Alloc.{snrOffset, psd, bandOf, addressOf, bapOf}
 use Rattle.alloc.specs.Allocation.{allocation, thresholdsOf}
 use Rattle.alloc.specs.Listed.{from}
 use Rattle.alloc.proofs.Listed.{pointers-listed}
-use Rattle.alloc.proofs.Within.{everywhere}
+use Rattle.alloc.proofs.Filled.{everywhere}
 use Rattle.blocks.specs.Counts.{between, noPart}
 use Rattle.blocks.specs.Mantissas.{leakBefore, gainsOf, deltasOf, pointers, partPointers, allPointers}
 use Rattle.blocks.specs.Sound.{Entries}
@@ -45,7 +45,7 @@ pick-small true n h = h
 pick-small false n h = omega arith
 
 bap-small : (level threshold : ℤ) → bapOf level threshold < 16
-unfolding bapOf bap
+unfolding bapOf addressOf bap
 bap-small level threshold = suc-le-suc (small-at 15 bap tt (clampZ (shrZ (level -ℤ threshold) 32) 63))
 
 module _ (fscod : ℕ) (st : AllocState) (exps : List (List ℤ)) (p : Part) where

@@ -4,7 +4,7 @@ use mathlib.Core.List.{List, []}
 use Prim.Native.Nat.{ℕ, _+_, _*_, _<_, _≤_}
 use lib.IntN.{ℤ, pos}
 use lib.ListN.{getD}
-use Rattle.signed.specs.Bound.{Below}
+use Rattle.alloc.specs.Steps.{Exponents}
 use Rattle.blocks.specs.Delta.{noDeltas}
 use Rattle.blocks.specs.Exponents.{Unpacked}
 use Rattle.blocks.specs.declared.AllocState.{AllocState}
@@ -67,7 +67,7 @@ SoundEnds ends = Entries ends 254
 
 -- the exponents of a set, and of the slots
 abbrev pub SoundRow : List ℤ → Type 0
-SoundRow row = (bin : ℕ) → Below 5 (getD row bin (pos 0))
+SoundRow = Exponents
 
 abbrev pub SoundExps : List (List ℤ) → Type 0
 SoundExps exps = (slot : ℕ) → SoundRow (getD exps slot [])

@@ -43,7 +43,7 @@ struct Stepped {
 fn step(c: Cursor, before: u32, difference: u32) -> Stepped
     requires { ⌜ (before < 32) × (difference < 32) ⌝ }
     ensures { λ r. ⌜ ((s : List ℕ) (room : List ℤ) → Reads (grammar.step before difference) s c room (r .exponent) (r .cursor) room) ⌝ }
-    ensures { λ r. ⌜ r .exponent < 32 ⌝ }
+    ensures { λ r. ⌜ r .exponent < 25 ⌝ }
 {
     let raised = before + difference;
     let cursor = syntax::refuse_if(c, outside(raised), 17);
@@ -92,7 +92,7 @@ fn repeat(row: &mut [i16; 256], at: usize, strategy: u8, exponent: u32)
 // Three exponents, one after the other.
 fn spread(row: &mut [i16; 256], at: usize, strategy: u8, x: u32, y: u32, z: u32)
     requires { ⌜ (strategy < 4) × (at + 3 * grammar.binsEach strategy ≤ 256) ⌝ }
-    requires { ⌜ (x < 32) × ((y < 32) × (z < 32)) ⌝ }
+    requires { ⌜ (x < 25) × ((y < 25) × (z < 25)) ⌝ }
     requires { ⌜ SoundRow (now row) ⌝ }
     ensures { λ _. ⌜ now (row .exit) ≡ sets (now (row .entry)) at (grammar.spread (grammar.binsEach strategy) x y z) ⌝ }
     ensures { λ _. ⌜ SoundRow (now (row .exit)) ⌝ }

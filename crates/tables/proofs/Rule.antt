@@ -1,12 +1,12 @@
--- The rule of Table 6.14, by one test computed over the whole table. Assumes nothing.
+-- The rules of the standard's tables, each by one test computed over the whole table. Assumes nothing.
 use mathlib.Core.Path.{_≡_, refl}
-use Prim.Native.Nat.{ℕ, _≤_}
+use Prim.Native.Nat.{ℕ, _≤_, _<_, suc-le-suc}
 use lib.Dec.{T}
 use lib.ListN.{length, getD}
-use Rattle.tables.specs.Tables.{logAdd}
-use Rattle.tables.proofs.Rules.{falls, falls-le}
+use Rattle.tables.specs.Tables.{logAdd, hearing, bap}
+use Rattle.tables.proofs.Rules.{small-at, falls, falls-le}
 
--- it has 256 entries, starts at 64, ends at 0, and each entry equals the one before or is one less
+-- Table 6.14 has 256 entries, starts at 64, ends at 0, and each entry equals the one before or is one less
 pub log-add-rule : (length logAdd ≡ 256) × (getD logAdd 0 0 ≡ 64) × (getD logAdd 255 0 ≡ 0) × T (falls 64 logAdd)
 unfolding logAdd
 log-add-rule = (refl, refl, refl, tt)
@@ -14,3 +14,11 @@ log-add-rule = (refl, refl, refl, tt)
 -- so no entry is above 64
 pub log-add-at-most : (at : ℕ) → getD logAdd at 0 ≤ 64
 log-add-at-most at = falls-le 64 logAdd (log-add-rule .3) at
+
+pub hearing-at-most : (at : ℕ) → getD hearing at 0 ≤ 2112
+unfolding hearing
+hearing-at-most at = small-at 2112 hearing tt at
+
+pub bap-below : (address : ℕ) → getD bap address 0 < 16
+unfolding bap
+bap-below address = suc-le-suc (small-at 15 bap tt address)

@@ -1,12 +1,10 @@
-// The tables of TS 102 366. One function reads each, since a table that stands in a goal is written out there. They are
-// public because the crates above look into them; past its last entry a table has 0.
+// The tables of TS 102 366. One function reads each, since a table that stands in a goal is written out there. Past its last
+// entry a table has 0.
 mod entries;
 
 ghost use mathlib.Core.Path.{_≡_};
-ghost use Prim.Native.Nat.{_+_, _*_, _≤_, _<_, min};
-ghost use lib.IntN.{pos};
+ghost use Prim.Native.Nat.{_≤_};
 ghost use lib.ListN.{getD};
-ghost use Rattle.signed.specs.Level.{clampZ};
 ghost use Rattle.signed.specs.Bound.{Below};
 ghost use Rattle.tables.specs.Tables as standard;
 
@@ -125,40 +123,50 @@ pub fn fast_gain(fgaincod: u8) -> u16
     }
 }
 
-// Table 6.12: the first bin past a band. It asks for a band of the table, to save the test in each band's step.
-pub fn band_end(band: usize) -> usize
-    requires { ⌜ band < 50 ⌝ }
-    ensures { λ r. ⌜ r ≡ getD standard.bandEnd band 0 ⌝ }
+// The tables that loops look into are handed out whole, once a call: an array that is looked up is built anew each time.
+
+// Table 6.12: the first bin past each of the 50 bands.
+pub fn band_ends() -> [u8; 50]
+    ensures { λ r. ⌜ r ≡ standard.bandEnd ⌝ }
 {
-    entries::BAND_END[band] as usize
+    entries::BAND_END
 }
 
-// Table 6.14: the last entry serves every distance past it.
-pub fn log_add(half: usize) -> i32
-    ensures { λ r. ⌜ r ≡ pos (getD standard.logAdd (min half 255) 0) ⌝ }
+// Table 6.14: what the smaller of two levels adds to the larger, by half their distance.
+pub fn log_adds() -> [u8; 256]
+    ensures { λ r. ⌜ r ≡ standard.logAdd ⌝ }
 {
-    entries::LOG_ADD[signed::least(half, 255)] as i32
+    entries::LOG_ADD
 }
 
-// Table 6.15. It asks for a place of the table, as band_end does.
-pub fn hearing(fscod: usize, band: usize) -> i32
-    requires { ⌜ (fscod < 3) × (band < 50) ⌝ }
-    ensures { λ r. ⌜ r ≡ pos (getD standard.hearing (50 * fscod + band) 0) ⌝ }
+// Table 6.15: 50 bands to each fscod.
+pub fn hearing_thresholds() -> [u16; 150]
+    ensures { λ r. ⌜ r ≡ standard.hearing ⌝ }
 {
-    entries::HEARING[50 * fscod + band] as i32
+    entries::HEARING
 }
 
-// Table 6.16, by the address held between 0 and 63.
-pub fn bap(address: i32) -> u8
-    ensures { λ r. ⌜ (r ≡ getD standard.bap (clampZ address 63) 0) × (r < 16) ⌝ }
+// Table 6.16: by the clamped address.
+pub fn bit_allocation_pointers() -> [u8; 64]
+    ensures { λ r. ⌜ r ≡ standard.bap ⌝ }
 {
-    entries::BAP[signed::clamp(address, 63)]
+    entries::BAP
 }
 
-// Table 6.17: the bits of a mantissa that stands alone. It asks for a bap, to save the test at each bin.
+// Table 6.17: the bits of a mantissa that stands alone, by its bap.
+pub fn mantissa_bits() -> [u8; 16]
+    ensures { λ r. ⌜ r ≡ standard.mantissaBits ⌝ }
+{
+    entries::BAP_BITS
+}
+
+// Table 6.17 once more, for a single bap; 0 past the table.
 pub fn bap_bits(bap: u8) -> u8
-    requires { ⌜ bap < 16 ⌝ }
     ensures { λ r. ⌜ (r ≡ standard.bapBits bap) × (r ≤ 16) ⌝ }
 {
-    entries::BAP_BITS[bap as usize]
+    if bap < 16 {
+        entries::BAP_BITS[bap as usize]
+    } else {
+        0
+    }
 }

@@ -1,4 +1,5 @@
 -- `ac3::info::additional_info` meets its contract: the flag says whether the span is there. Assumes nothing.
+use lib.Dec.{lit≤}
 use borrow.Author.Needs.{needs}
 use Rattle.syntax.proofs.Sequence.{then, finished}
 use Rattle.ac3.specs.Header.{additionalInfo}
@@ -27,12 +28,12 @@ pub additional-info-spec : {M : Type 1} → statement M
 additional-info-spec =
     tie.close
     (tie.spec
-    (λ c κs. search needs)  -- flag-requires
-    (λ c κs. search needs)  -- take-requires
+    (λ c κs. tt)  -- flag-requires
+    (λ c κs. lit≤ tt)  -- take-requires
     (λ c. search needs)  -- cast-pass
     (λ c. search needs)  -- add-pass
     (λ c. search needs)  -- mul-pass
-    (λ c κs. search needs)  -- pass-requires
+    (λ c κs. tt)  -- pass-requires
     (λ c. present c .long)  -- same-length
     present
     (λ c. absent c .long)  -- same-length-2

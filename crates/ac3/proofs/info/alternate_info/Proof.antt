@@ -1,5 +1,5 @@
 -- `ac3::info::alternate_info` meets its contract: a flag and the lines under it, twice. Assumes nothing.
-use borrow.Author.Needs.{needs}
+use lib.Dec.{lit≤}
 use Rattle.syntax.proofs.Sequence.{then}
 use Rattle.ac3.specs.Header.{alternateInfo}
 use Rattle.ac3.proofs.Under.{under}
@@ -40,17 +40,17 @@ pub alternate-info-spec : {M : Type 1} → statement M
 alternate-info-spec =
     tie.close
     (tie.spec
-    (λ c κs. search needs)  -- flag-requires
-    (λ c κs. search needs)  -- note-when-requires
-    (λ c κs. search needs)  -- note-when-requires-2
-    (λ c κs. search needs)  -- note-when-requires-3
-    (λ c κs. search needs)  -- note-when-requires-4
-    (λ c κs. search needs)  -- note-when-requires-5
-    (λ c κs. search needs)  -- flag-requires-2
-    (λ c κs. search needs)  -- note-when-requires-6
-    (λ c κs. search needs)  -- note-when-requires-7
-    (λ c κs. search needs)  -- note-when-requires-8
-    (λ c κs. search needs)  -- note-when-requires-9
-    (λ c κs. search needs)  -- note-when-requires-10
+    (λ c κs. tt)  -- flag-requires
+    (λ c κs. lit≤ tt)  -- note-when-requires
+    (λ c κs. lit≤ tt)  -- note-when-requires-2
+    (λ c κs. lit≤ tt)  -- note-when-requires-3
+    (λ c κs. lit≤ tt)  -- note-when-requires-4
+    (λ c κs. lit≤ tt)  -- note-when-requires-5
+    (λ c κs. tt)  -- flag-requires-2
+    (λ c κs. lit≤ tt)  -- note-when-requires-6
+    (λ c κs. lit≤ tt)  -- note-when-requires-7
+    (λ c κs. lit≤ tt)  -- note-when-requires-8
+    (λ c κs. lit≤ tt)  -- note-when-requires-9
+    (λ c κs. lit≤ tt)  -- note-when-requires-10
     (λ c. reads c .long)  -- same-length
     reads)

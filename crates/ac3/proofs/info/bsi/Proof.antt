@@ -1,7 +1,7 @@
 -- `ac3::info::bsi` meets its contract: a `then` for each call. Assumes nothing.
 use native.Mathlib.Omega.{arith}
 use mathlib.Core.Path.{refl}
-use borrow.Author.Needs.{needs}
+use lib.Dec.{lit<, lit≤}
 use Rattle.syntax.proofs.Sequence.{then, judged, finished}
 use Rattle.ac3.specs.Header.{bsi}
 use Rattle.ac3.proofs.info.bsi.Statement.{statement}
@@ -45,21 +45,21 @@ pub bsi-spec : {M : Type 1} → statement M
 bsi-spec =
     tie.close
     (tie.spec
-    (λ c κs. search needs)  -- take-requires
-    (λ c κs. search needs)  -- refuse-if-requires
-    (λ c κs. search needs)  -- note-requires
-    (λ c κs. search needs)  -- take-requires-2
-    (λ c κs. search needs)  -- and-not-requires
-    (λ c κs. search needs)  -- note-when-requires
-    (λ c κs. search needs)  -- note-when-requires-2
-    (λ c κs. search needs)  -- note-when-requires-3
-    (λ c κs. search needs)  -- flag-requires
+    (λ c κs. lit≤ tt)  -- take-requires
+    (λ c κs. lit< tt)  -- refuse-if-requires
+    (λ c κs. lit≤ tt)  -- note-requires
+    (λ c κs. lit≤ tt)  -- take-requires-2
+    (λ c κs. tt)  -- and-not-requires
+    (λ c κs. lit≤ tt)  -- note-when-requires
+    (λ c κs. lit≤ tt)  -- note-when-requires-2
+    (λ c κs. lit≤ tt)  -- note-when-requires-3
+    (λ c κs. tt)  -- flag-requires
     (λ c. omega (arith, c .before .before .before .before .before .before .before .before .before .before .before .before .before .before .before .take2 .ensures .1))  -- cast-programme-infos
-    (λ c κs. search needs)  -- programme-infos-requires
-    (λ c κs. search needs)  -- note-requires-2
-    (λ c κs. search needs)  -- note-requires-3
-    (λ c κs. search needs)  -- codes-or-alternate-requires
-    (λ c κs. search needs)  -- additional-info-requires
+    (λ c κs. tt)  -- programme-infos-requires
+    (λ c κs. lit≤ tt)  -- note-requires-2
+    (λ c κs. lit≤ tt)  -- note-requires-3
+    (λ c κs. tt)  -- codes-or-alternate-requires
+    (λ c κs. tt)  -- additional-info-requires
     (λ c. omega (arith, c .before .before .before .before .before .before .before .before .before .before .before .before .before .before .before .before .before .before .before .before .before .before .before .before .before .before .before .before .before .before .before .before .before .before .before .before .before .before .take .ensures .1))  -- cast-t41
     (λ c. omega (arith, c .before .before .before .before .before .before .before .before .before .before .before .before .before .before .before .before .before .before .before .before .before .before .before .before .before .before .before .before .before .before .take2 .ensures .1))  -- cast-t51
     (λ c. reads c .0 .long)  -- same-length

@@ -8,8 +8,8 @@ pub codes-or-alternate-spec : {M : Type 1} → statement M
 codes-or-alternate-spec =
     tie.close
     (tie.spec
-    (λ c κs. search needs)  -- alternate-info-requires
-    (λ c κs. search needs)  -- time-codes-requires
+    (λ c κs. tt)  -- alternate-info-requires
+    (λ c κs. tt)  -- time-codes-requires
     (λ c. search needs)  -- same-length
     (λ c. let t = c .before in rw (eq-eqb _ 6 (t .before .before .if1 .taken)) (t .alternate-info .ensures))  -- returns
     (λ c. search needs)  -- same-length-2

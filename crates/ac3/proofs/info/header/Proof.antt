@@ -1,6 +1,5 @@
 -- `ac3::info::header` meets its contract: where syncinfo refused, what is left stays unread. Assumes nothing.
 use native.Mathlib.Omega.{arith}
-use borrow.Author.Needs.{needs}
 use Rattle.syntax.proofs.Sequence.{then, stopped}
 use Rattle.ac3.specs.Header.{header}
 use Rattle.ac3.proofs.info.header.Statement.{statement}
@@ -25,7 +24,7 @@ pub header-spec : {M : Type 1} → statement M
 header-spec =
     tie.close
     (tie.spec
-    (λ c κs. search needs)  -- syncinfo-requires
+    (λ c κs. tt)  -- syncinfo-requires
     (λ c. early c .0 .long)  -- same-length
     early
     (λ c κs. c .before .before .before .before .before .syncinfo .ensures .1 (c .before .if1 .left))  -- bsi-requires

@@ -1,5 +1,6 @@
 -- `ac3::info::programme_info` meets its contract: a `then` for each call. Assumes nothing.
 use native.Mathlib.Omega.{arith}
+use lib.Dec.{lit≤}
 use borrow.Author.Needs.{needs}
 use Rattle.syntax.proofs.Sequence.{then}
 use Rattle.ac3.specs.Header.{programmeInfo}
@@ -33,20 +34,20 @@ programme-info-spec =
     (tie.spec
     (λ c. search needs)  -- mul-n
     (λ c. search needs)  -- add-note
-    (λ c κs. search needs)  -- note-requires
+    (λ c κs. lit≤ tt)  -- note-requires
     (λ c. search needs)  -- add-flag
-    (λ c κs. search needs)  -- flag-requires
+    (λ c κs. tt)  -- flag-requires
     (λ c. search needs)  -- add-note-when
-    (λ c κs. search needs)  -- note-when-requires
+    (λ c κs. lit≤ tt)  -- note-when-requires
     (λ c. search needs)  -- add-flag-2
-    (λ c κs. search needs)  -- flag-requires-2
+    (λ c κs. tt)  -- flag-requires-2
     (λ c. search needs)  -- add-note-when-2
-    (λ c κs. search needs)  -- note-when-requires-2
+    (λ c κs. lit≤ tt)  -- note-when-requires-2
     (λ c. omega (arith, c .before .before .before .before .before .before .before .before .before .before .before .before .before .before .before .before .before .pre))  -- add-flag-3
-    (λ c κs. search needs)  -- flag-requires-3
+    (λ c κs. tt)  -- flag-requires-3
     (λ c. omega (arith, c .before .before .before .before .before .before .before .before .before .before .before .before .before .before .before .before .before .before .before .before .pre))  -- add-note-when-3
-    (λ c κs. search needs)  -- note-when-requires-3
+    (λ c κs. lit≤ tt)  -- note-when-requires-3
     (λ c. omega (arith, c .before .before .before .before .before .before .before .before .before .before .before .before .before .before .before .before .before .before .before .before .before .before .before .pre))  -- add-note-when-4
-    (λ c κs. search needs)  -- note-when-requires-4
+    (λ c κs. lit≤ tt)  -- note-when-requires-4
     (λ c. reads c .long)  -- same-length
     reads)

@@ -1,6 +1,5 @@
 -- `ac3::info::programme_infos` meets its contract: the invariant says which programmes are left. Assumes nothing.
 use Prim.Native.Nat.{_-_}
-use mathlib.Core.Path.{sym}
 use borrow.Author.Needs.{needs}
 use Rattle.syntax.proofs.Sequence.{Turns, begins, turn, ends}
 use Rattle.ac3.specs.Header.{programmeInfo}
@@ -28,7 +27,7 @@ programme-infos-spec =
     (tie.spec
     Inv-loop
     μ-loop
-    (λ c κs. search needs)  -- programmes-requires
+    (λ c κs. tt)  -- programmes-requires
     (λ c. begins)  -- loop-holds
     (λ c κs. search needs)  -- programme-info-requires
     (λ c. search needs)  -- add-p

@@ -1,16 +1,30 @@
 -- `ac3::info::syncinfo` meets its contract: a `then` for each call; a frame that has bytes has one of the three sample rates. Assumes nothing.
 use mathlib.Core.Path.{refl, _∙_}
 use mathlib.Core.List.{[]}
+use lib.Dec.{lit<, lit≤}
 use borrow.Author.Tests.{eqb-false}
 use borrow.Author.Needs.{needs}
-use Rattle.syntax.proofs.Sequence.{then, judged, finished}
+use Rattle.syntax.proofs.Sequence.{then, judged, finished, stopped}
 use Rattle.ac3.specs.Header.{syncinfo}
 use Rattle.ac3.proofs.Going.{going}
 use Rattle.ac3.proofs.Rate.{rated}
 use Rattle.ac3.proofs.info.syncinfo.Statement.{statement}
 use Rattle.ac3.proofs.info.syncinfo.Tie as tie
 
-reads : tie.Need-returns
+early : tie.Need-returns
+unfolding syncinfo
+early c =
+    let t3 = c .before .before in
+    let t2 = t3 .before .before .before in
+    let t1 = t2 .before .before in (
+      then _ (t1 .frame .ensures _)
+          (then _ (t2 .take .ensures .0)
+          (then _ (judged (t3 .refuse-if .ensures) refl)
+          (stopped (c .if1 .taken)))),
+      λ on. absurd (c .if1 .taken on),
+    )
+
+reads : tie.Need-returns-2
 unfolding syncinfo
 reads c =
     let t9 = c .before in
@@ -19,7 +33,7 @@ reads c =
     let t6 = t7 .before .before .before .before in
     let t5 = t6 .before .before .before in
     let t4 = t5 .before .before .before in
-    let t3 = t4 .before .before in
+    let t3 = t4 .before .before .before .before in
     let t2 = t3 .before .before .before in
     let t1 = t2 .before .before in (
       then _ (t1 .frame .ensures _)
@@ -40,16 +54,18 @@ syncinfo-spec =
     tie.close
     (tie.spec
     (λ c κs. search needs)  -- frame-requires
-    (λ c κs. search needs)  -- take-requires
-    (λ c κs. search needs)  -- refuse-if-requires
-    (λ c κs. search needs)  -- note-requires
-    (λ c κs. search needs)  -- take-requires-2
-    (λ c κs. search needs)  -- take-requires-3
+    (λ c κs. lit≤ tt)  -- take-requires
+    (λ c κs. lit< tt)  -- refuse-if-requires
+    (λ c. early c .0 .long)  -- same-length
+    early
+    (λ c κs. lit≤ tt)  -- note-requires
+    (λ c κs. lit≤ tt)  -- take-requires-2
+    (λ c κs. lit≤ tt)  -- take-requires-3
     (λ c. search needs)  -- cast-frame-bytes
     (λ c. search needs)  -- cast-frame-bytes-2
-    (λ c κs. search needs)  -- frame-bytes-requires
-    (λ c κs. search needs)  -- refuse-if-requires-2
+    (λ c κs. tt)  -- frame-bytes-requires
+    (λ c κs. lit< tt)  -- refuse-if-requires-2
     (λ c κs. search needs)  -- frame-requires-2
     (λ c. search needs)  -- cast-t24
-    (λ c. reads c .0 .long)  -- same-length
+    (λ c. reads c .0 .long)  -- same-length-2
     reads)

@@ -1,5 +1,5 @@
 -- `ac3::info::time_codes` meets its contract: a `then` for each call. Assumes nothing.
-use borrow.Author.Needs.{needs}
+use lib.Dec.{lit≤}
 use Rattle.syntax.proofs.Sequence.{then}
 use Rattle.ac3.specs.Header.{timeCodes}
 use Rattle.ac3.proofs.info.time_codes.Statement.{statement}
@@ -21,9 +21,9 @@ pub time-codes-spec : {M : Type 1} → statement M
 time-codes-spec =
     tie.close
     (tie.spec
-    (λ c κs. search needs)  -- flag-requires
-    (λ c κs. search needs)  -- note-when-requires
-    (λ c κs. search needs)  -- flag-requires-2
-    (λ c κs. search needs)  -- note-when-requires-2
+    (λ c κs. tt)  -- flag-requires
+    (λ c κs. lit≤ tt)  -- note-when-requires
+    (λ c κs. tt)  -- flag-requires-2
+    (λ c κs. lit≤ tt)  -- note-when-requires-2
     (λ c. reads c .long)  -- same-length
     reads)

@@ -32,7 +32,7 @@ reads c =
           (then _ (y .step2 .ensures .0 _ _)
           (then _ (z .step3 .ensures .0 _ _)
           (rw (w .spread .ensures .0, b .bins-each .ensures) finished))))),
-      record { last = z .step3 .ensures .1; row = w .spread .ensures .1 },
+      record { last = omega (arith, z .step3 .ensures .1); row = w .spread .ensures .1 },
     )
 
 pub group-spec : {M : Type 1} → statement M

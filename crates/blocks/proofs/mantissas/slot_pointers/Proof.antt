@@ -4,7 +4,7 @@ use Prim.Native.Nat.{ℕ}
 use native.Mathlib.Omega.{arith}
 use lib.ListN.{getD}
 use borrow.Author.Needs.{needs}
-use Rattle.signed.specs.Bound.{below-read, below-is, below-more, back-32}
+use Rattle.signed.specs.Bound.{below-read, below-is, back-32}
 use Rattle.blocks.proofs.Pointers.{snr-below, slotAllocation, lists, small}
 use Rattle.blocks.proofs.mantissas.slot_pointers.Statement.{statement}
 use Rattle.blocks.proofs.mantissas.slot_pointers.Tie as tie
@@ -19,9 +19,8 @@ allocate-requires c κs =
       s .pre .3 .end,
       omega arith,
       t1 .deltas-of .ensures .1 .count,
-      t1 .deltas-of .ensures .1 .codes,
       below-read (below-is (t5 .snr-offset .ensures) (snr-below _ _ (sound .csnroffst) (sound .fsnroffst (s .args .p .slot)))),
-      below-read (below-more (c .before .floor .ensures .1) tt),
+      below-read (c .before .floor .ensures .1),
       t4 .leak-before .ensures .1,
       s .pre .2 (s .args .p .slot),
     )

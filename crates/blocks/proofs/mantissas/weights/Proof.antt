@@ -5,7 +5,7 @@ use native.Mathlib.Omega.{arith}
 use lib.ListN.{length, length-set, getD}
 use borrow.Author.Needs.{needs}
 use Rattle.alloc.specs.Alloc.{within}
-use Rattle.alloc.proofs.Within.{cleared, within-none, within-in, within-set}
+use Rattle.alloc.proofs.Filled.{cleared, filled-none, filled-in, filled-set}
 use Rattle.blocks.specs.Counts.{noCounts, counted, packed}
 use Rattle.blocks.proofs.mantissas.weights.Statement.{statement}
 use Rattle.blocks.proofs.mantissas.weights.Tie as tie
@@ -23,11 +23,11 @@ again : tie.Need-loop-again Inv-loop μ-loop
 unfolding weigh
 again c =
     let at = c .before .before .loop in
-    (length-set (at .weights) (at .bap) _ ∙ at .inv .0, within-set 0 weigh 0 (at .weights) (at .bap) _ (omega arith) (omega (arith, at .inv .0)) (c .weight .ensures) (at .inv .1))
+    (length-set (at .weights) (at .bap) _ ∙ at .inv .0, filled-set weigh (λ _. 0) 0 (at .weights) 0 (at .bap) _ (omega arith) (omega (arith, at .inv .0)) (c .weight .ensures) (at .inv .1))
 
 returns : tie.Need-returns Inv-loop μ-loop
 unfolding weigh
-returns c bap h = let at = c .before .loop in at .inv .1 bap ∙ within-in 0 weigh 0 (at .bap) bap (omega arith) (omega arith)
+returns c bap h = let at = c .before .loop in at .inv .1 bap ∙ filled-in weigh (λ _. 0) 0 (at .bap) bap (omega arith) (omega arith)
 
 pub weights-spec : {M : Type 1} → statement M
 weights-spec =
@@ -35,7 +35,7 @@ weights-spec =
     (tie.spec
     Inv-loop
     μ-loop
-    (λ c. (refl, λ k. cleared 16 k ∙ sym (within-none 0 weigh 0 k)))  -- loop-holds
+    (λ c. (refl, λ k. cleared 16 k ∙ sym (filled-none weigh (λ _. 0) 0 k)))  -- loop-holds
     (λ c κs. search needs)  -- weight-requires
     (λ c. search needs)  -- cast-weights
     (λ c. search needs)  -- mul-weights

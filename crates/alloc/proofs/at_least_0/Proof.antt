@@ -1,0 +1,12 @@
+-- `alloc::at_least_0` meets its contract: the test is the definition's, on what is read back from the parameter's bits. Assumes nothing.
+use mir.Syntax.{w16}
+use mir.ValLaws.{toZ-ofZ}
+use Rattle.alloc.proofs.at_least_0.Statement.{statement}
+use Rattle.alloc.proofs.at_least_0.Tie as tie
+
+pub at-least-0-spec : {M : Type 1} → statement M
+at-least-0-spec =
+    tie.close
+    (tie.spec
+    (λ c. let x = toZ-ofZ w16 (c .before .args .x) (c .before .fits .x) in rw (rw x at (c .if1 .taken)))
+    (λ c. let x = toZ-ofZ w16 (c .before .args .x) (c .before .fits .x) in rw (x, rw x at (c .if1 .left))))

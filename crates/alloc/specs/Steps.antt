@@ -1,0 +1,38 @@
+-- What the code computes in the place of levels: they are the levels less a constant, or counted in steps of 32. `proofs/Shifted.antt`
+-- proves that the addresses are those of the definition. Assumes nothing.
+use mathlib.Core.List.{List}
+use Prim.Native.Nat.{ℕ, _+_, _*_}
+use lib.IntN.{ℤ, pos, _+ℤ_, _-ℤ_, _*ℤ_}
+use lib.ListN.{getD}
+use lib.Signed.{shrZ, _≤ℤ_}
+use Rattle.signed.specs.Level.{maxZ, clampZ}
+use Rattle.tables.specs.Tables.{hearing}
+use Rattle.alloc.specs.Alloc.{at, overKnee, threshold}
+
+-- every exponent is one
+abbrev pub Exponents : List ℤ → Type 0
+Exponents exponents = (bin : ℕ) → (pos 0 ≤ℤ at exponents bin) × (at exponents bin ≤ℤ pos 24)
+
+abbrev pub Address : ℤ → Type 0
+Address z = (pos 0 ≤ℤ z) × (z ≤ℤ pos 63)
+
+-- a bin's level below that of exponent 0
+unfoldable pub relative : ℤ → ℤ
+relative exponent = pos 0 -ℤ exponent *ℤ pos 128
+
+abbrev pub relativeAt : List ℤ → ℕ → ℤ
+relativeAt exponents bin = relative (at exponents bin)
+
+-- the address of exponent 0 before it is clamped, and a bin's clamped address from there
+unfoldable pub stepOf : ℤ → ℤ
+stepOf threshold = shrZ (pos 3072 -ℤ threshold) 32
+
+unfoldable pub addressFrom : ℤ → ℤ → ℕ
+addressFrom step exponent = clampZ (step -ℤ exponent *ℤ pos 4) 63
+
+-- the step of a band
+unfoldable pub stepAt : (excite here : ℤ) (knee quiet : ℕ) (delta snr floor : ℤ) → ℤ
+stepAt excite here knee quiet delta snr floor = stepOf (threshold (maxZ (overKnee excite here knee) (pos quiet) +ℤ delta) snr floor)
+
+abbrev pub stepBy : (excite here delta : ℕ → ℤ) (knee fscod : ℕ) (snr floor : ℤ) → ℕ → ℤ
+stepBy excite here delta knee fscod snr floor band = stepAt (excite band) (here band) knee (getD hearing (50 * fscod + band) 0) (delta band) snr floor

@@ -8,6 +8,7 @@ use crate::error::Error;
 use crate::hex;
 use crate::names::{self, role_numbers, ROW};
 use crate::syntax::Field;
+use std::rc::Rc;
 
 /// An input's answer with ample room, and the rows written there.
 pub struct Ample {
@@ -17,7 +18,7 @@ pub struct Ample {
 
 /// One call with given room, agreed upon.
 pub struct Call {
-    pub ample: Ample,
+    pub ample: Rc<Ample>,
     pub answer: Answer,
     /// Every number of the room after the call.
     pub room: Vec<i32>,
@@ -60,24 +61,29 @@ impl Judge {
     /// The answer with room for `numbers` numbers, or with room that just suffices and `left_over`
     /// numbers; stops if it is not what the answer with ample room entails.
     pub fn call(&mut self, capture: &[u8], place: usize, room: Room) -> Call {
-        let ample = self.ample(capture, place);
-        let numbers = match room {
-            Room::Numbers(n) => n,
-            Room::Sufficient { left_over } => ROW * ample.answer.rows + left_over,
-        };
-        let mut room = fresh_room(numbers);
-        let answer = answer(capture, place, &mut room);
-        if let Err(why) = entailed(&ample, &answer, &room) {
-            panic!(
-                "{why}\n{numbers} numbers, place {place} of {}",
-                hex::of(capture)
-            );
-        }
-        Call {
-            ample,
-            answer,
-            room,
-        }
+        let ample = Rc::new(self.ample(capture, place));
+        call_within(ample, capture, place, room)
+    }
+}
+
+/// The same, where the answer with ample room is known.
+pub fn call_within(ample: Rc<Ample>, capture: &[u8], place: usize, room: Room) -> Call {
+    let numbers = match room {
+        Room::Numbers(n) => n,
+        Room::Sufficient { left_over } => ROW * ample.answer.rows + left_over,
+    };
+    let mut room = fresh_room(numbers);
+    let answer = answer(capture, place, &mut room);
+    if let Err(why) = entailed(&ample, &answer, &room) {
+        panic!(
+            "{why}\n{numbers} numbers, place {place} of {}",
+            hex::of(capture)
+        );
+    }
+    Call {
+        ample,
+        answer,
+        room,
     }
 }
 

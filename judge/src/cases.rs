@@ -3,9 +3,10 @@
 //! of a longer capture, moved across the frame's end, and with too little room. Every input
 //! passes the checks of `agree`.
 
-use crate::agree::{Call, Judge, Room};
+use crate::agree::{call_within, Call, Judge, Room};
 use crate::bits;
 use crate::corners;
+use crate::craft::small;
 use crate::draw::{accepted, Style};
 use crate::frames;
 use crate::goals::{Counts, SEVEN, SIX};
@@ -13,6 +14,7 @@ use crate::moving::moved;
 use crate::names::{self, ROW};
 use crate::rng::Rng;
 use std::collections::BTreeSet;
+use std::rc::Rc;
 
 /// Bits of a capture to overwrite before the call.
 #[derive(Clone, Copy, Debug, PartialEq, Eq)]
@@ -59,6 +61,8 @@ pub struct Amounts {
     pub every_file: usize,
     /// Rewritten fields per frame: of a corner case, of an encoder, drawn.
     pub rewritten: [usize; 3],
+    /// Is every other drawn frame, and one in ten of the encoder's, swept as well (see `sweep`)?
+    pub swept: bool,
 }
 
 impl Amounts {
@@ -68,6 +72,15 @@ impl Amounts {
             of_any_size: 60 * size,
             every_file: 1,
             rewritten: [40, 16, 40],
+            swept: false,
+        }
+    }
+
+    /// The same with sweeps, for millions of inputs.
+    pub fn swept(size: usize) -> Self {
+        Amounts {
+            swept: true,
+            ..Self::of_size(size)
         }
     }
 
@@ -78,6 +91,7 @@ impl Amounts {
             of_any_size: 30 * size,
             every_file: 3,
             rewritten: [12, 6, 16],
+            swept: false,
         }
     }
 }
@@ -89,6 +103,8 @@ pub struct Generator<'s> {
     pub calls: usize,
     pub accepted_rows: usize,
     pub most_rows: usize,
+    /// Inputs made by sweeps: truncations, places, rooms.
+    pub swept: [usize; 3],
     /// Names whose values are judged or steer.
     steering: Vec<i32>,
     /// The corner case now being made.
@@ -106,6 +122,7 @@ impl<'s> Generator<'s> {
             calls: 0,
             accepted_rows: 0,
             most_rows: 0,
+            swept: [0; 3],
             steering: (1..=names::COUNT as i32)
                 .filter(|n| !spans_and_free(n))
                 .collect(),
@@ -124,24 +141,37 @@ impl<'s> Generator<'s> {
         room: Room,
     ) -> u32 {
         assert!(capture.len() <= LONGEST);
-        let input = input(capture, edit, keep);
-        let call = self.judge.call(&input, place, room);
-        let case = Case {
+        let edited;
+        let input = match edit {
+            None => &capture[..keep],
+            Some(_) => {
+                edited = input(capture, edit, keep);
+                &edited
+            }
+        };
+        let call = self.judge.call(input, place, room);
+        let corner = self.corner.take();
+        self.give(&Case {
             capture,
             edit,
             keep,
             place,
-            input: &input,
+            input,
             call: &call,
-            corner: self.corner.take(),
-        };
+            corner,
+        })
+    }
+
+    /// Counts a case and hands it on. Returns the refusal's number, 0 for none.
+    fn give(&mut self, case: &Case<'_>) -> u32 {
+        let call = case.call;
         self.calls += 1;
         if call.answer.verdict.is_ok() {
             self.accepted_rows += call.answer.rows;
             self.most_rows = self.most_rows.max(call.answer.rows);
         }
-        self.counts.add(&case);
-        (self.sink)(&case);
+        self.counts.add(case);
+        (self.sink)(case);
         call.answer.number()
     }
 
@@ -170,8 +200,68 @@ impl<'s> Generator<'s> {
 
     /// Room from none to one row too many.
     fn rooms(&mut self, capture: &[u8], rows: usize, step: usize) {
+        let ample = Rc::new(self.judge.ample(capture, 0));
         for limit in (0..=rows + 1).step_by(step) {
-            self.with_rows(capture, limit);
+            let room = Room::Numbers(ROW * limit + self.rng.below(ROW));
+            let call = call_within(ample.clone(), capture, 0, room);
+            self.give(&Case {
+                capture,
+                edit: None,
+                keep: capture.len(),
+                place: 0,
+                input: capture,
+                call: &call,
+                corner: None,
+            });
+        }
+    }
+
+    /// The first bytes of a capture, from none to all.
+    fn truncations(&mut self, capture: &[u8]) {
+        for keep in 0..=capture.len() {
+            let room = self.sufficient();
+            self.case(capture, None, keep, 0, room);
+        }
+    }
+
+    /// Every place of a longer capture, up to one past its end: beginnings of the frame, the frame, and a last beginning of it, so that
+    /// more places than one have a sync word.
+    fn every_place(&mut self, frame: &[u8]) {
+        let mut capture = Vec::new();
+        for _ in 0..self.rng.below(8) {
+            let begun = 2 + self.rng.below(60);
+            capture.extend(&frame[..begun]);
+        }
+        capture.extend(frame);
+        let begun = self.rng.below(frame.len());
+        capture.extend(&frame[..begun]);
+        for place in 0..=capture.len() + 1 {
+            let room = self.sufficient();
+            self.case(&capture, None, capture.len(), place, room);
+        }
+    }
+
+    /// An accepted frame truncated at every byte, at every place of a longer capture, and in every room.
+    fn sweep(&mut self, frame: &[u8], rows: usize) {
+        let began = self.calls;
+        self.truncations(frame);
+        let truncated = self.calls;
+        self.every_place(frame);
+        let placed = self.calls;
+        self.rooms(frame, rows, 1);
+        self.swept[0] += truncated - began;
+        self.swept[1] += placed - truncated;
+        self.swept[2] += self.calls - placed;
+    }
+
+    /// What document 01 asks to run and compare: chbwcod 60 and 61, rows one too few, a frame one byte short; the mantissas of these frames
+    /// have no width.
+    pub fn run_and_compared(&mut self) {
+        for chbwcod in [60, 61] {
+            let frame = small(&|a| (a.name == "chbwcod").then_some(chbwcod));
+            self.at_zero(&frame, None);
+            let rows = self.judge.ample(&frame, 0).rows.len() / ROW;
+            self.sweep(&frame, rows);
         }
     }
 
@@ -406,6 +496,9 @@ impl<'s> Generator<'s> {
                 let rows = self.whole(frame);
                 self.rewrite(frame, &rows, amounts.rewritten[1]);
                 self.full_at(frame, &rows, 2);
+                if amounts.swept && self.rng.chance(10) {
+                    self.sweep(frame, rows.len() / ROW);
+                }
                 match (i + j) % 6 {
                     0 => self.resize(frame, 10),
                     1 => self.places(frame),
@@ -444,12 +537,7 @@ impl<'s> Generator<'s> {
             match i % 20 {
                 3 if i % 40 == 3 => self.rooms(&frame, count, 1),
                 3 | 7 | 17 => self.rooms(&frame, count, 1 + count / 20),
-                13 if frame.len() < 400 => {
-                    for keep in 0..=frame.len() {
-                        let room = self.sufficient();
-                        self.case(&frame, None, keep, 0, room);
-                    }
-                }
+                13 if frame.len() < 400 => self.truncations(&frame),
                 5 if frame.len() < 400 => (0..8 * frame.len()).for_each(|at| self.flip(&frame, at)),
                 1 | 9 | 11 | 19 => self.places(&frame),
                 2 | 12 => self.free_values(&frame, &rows),
@@ -460,6 +548,9 @@ impl<'s> Generator<'s> {
             self.overrun(&frame, &rows);
             if i % 4 == 0 {
                 self.tight(&frame, &rows);
+            }
+            if amounts.swept && i % 2 == 0 {
+                self.sweep(&frame, count);
             }
         }
     }

@@ -19,6 +19,8 @@ pub const IN_BLOCK: &str = "refusal in block";
 /// Refused with 6 or with 7 at the name.
 pub const SIX: &str = "refusal 6 at name";
 pub const SEVEN: &str = "refusal 7 at name";
+/// Refused with 7 for want of the last row alone.
+pub const ONE_ROW_SHORT: &str = "rows one too few";
 /// Refused with 17: the exponent fell below 0 (0) or rose above 24 (1).
 pub const OUTSIDE: &str = "exponent below 0 or above 24";
 /// Refused with the number for the value, see `judged`.
@@ -131,6 +133,10 @@ pub fn reached(case: &Case<'_>) -> Vec<Goal> {
                 7 => {
                     goals.push((SEVEN, case.call.ample.rows[ROW * answer.rows], 0));
                     goals.push((LEFT_OVER, 1, left_over));
+                    let ample = &case.call.ample.answer;
+                    if ample.verdict.is_ok() && ample.rows == answer.rows + 1 {
+                        goals.push((ONE_ROW_SHORT, 0, 0));
+                    }
                 }
                 17 => goals.push((OUTSIDE, i32::from(!no.text.contains('-')), 0)),
                 _ => {}
@@ -209,6 +215,7 @@ pub fn required() -> Vec<Goal> {
     }
     goals.extend((number(LAST_OF_HEADER) + 1..=count).map(|n| (SIX, n, 0)));
     goals.extend((1..=count).map(|n| (SEVEN, n, 0)));
+    goals.push((ONE_ROW_SHORT, 0, 0));
     goals.extend([(OUTSIDE, 0, 0), (OUTSIDE, 1, 0)]);
     goals.extend((0..16).map(|m| (MODE, m / 2, m % 2)));
     goals.extend((0..9).map(|b| (BSID, b, 0)));
@@ -274,8 +281,20 @@ pub fn say(goal: &Goal) -> String {
         FEATURE => FEATURES[a as usize].into(),
         PLACE => PLACES[a as usize].into(),
         REFUSAL | BSID | OUTSIDE | CORNER => format!("{kind} {a}"),
+        ONE_ROW_SHORT => kind.into(),
         _ => format!("{kind}: {a} {b}"),
     }
+}
+
+/// What document 01 asks to run and compare, by name.
+pub fn by_name() -> [(&'static str, Goal); 5] {
+    [
+        ("chbwcod 60", (VALUE, number("chbwcod"), 60)),
+        ("chbwcod 61", (JUDGED, 11, 61)),
+        (ONE_ROW_SHORT, (ONE_ROW_SHORT, 0, 0)),
+        ("frame one byte short", (JUDGED, 4, 1)),
+        ("zero-width mantissas", (FEATURE, 0, 0)),
+    ]
 }
 
 /// How often each goal was reached.

@@ -92,6 +92,7 @@ fn main() {
         (SITE, "every refusal after every name where it can stand"),
         (SIX, "refusal 6 at every name of the blocks"),
         (SEVEN, "refusal 7 at every name"),
+        (ONE_ROW_SHORT, "rows one too few"),
         (OUTSIDE, "exponents below 0 and above 24"),
         (MODE, "every mode"),
         (BSID, "every bsid"),

@@ -93,6 +93,14 @@ module _ {A : Type 0} {body : ℕ → A → Grammar A} {first last : ℕ} {a : A
         let done-is : seen b d now ≡ runs (done b) s d now = finished .same in
         record { same = done-is ∙ (rw (m, none-left body i b) at (t .left)); long = t .long }
 
+-- where reading stopped in a loop, the turns that are left change nothing
+pub leaves : {A : Type 0} {body : ℕ → A → Grammar A} {first last : ℕ} {a : A} {s : List ℕ} {c : Cursor} {room : List ℤ}
+    {i : ℕ} {b : A} {d : Cursor} {now : List ℤ}
+    → Turns body first last a s c room i b d now → (d .stop ≡ 0 → ⊥) → Reads (for first last a body) s c room b d now
+leaves {body = body} {last = last} {s = s} {i = i} {b = b} {d = d} {now = now} t h =
+    let stays : Reads (for i last b body) s d now b d now = stopped h in
+    record { same = stays .same ∙ t .left; long = t .long }
+
 -- ---- the three ways through a judge
 
 module _ {bad : Bool} {n : ℕ} {c : Cursor} where

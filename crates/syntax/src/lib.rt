@@ -5,7 +5,7 @@ pub mod names;
 
 ghost use mathlib.Core.Path.{_≡_};
 ghost use mathlib.Core.List.{List};
-ghost use Prim.Native.Nat.{ℕ, _<_, _≤_, _+_, _^_};
+ghost use Prim.Native.Nat.{ℕ, _<_, _≤_, _+_, _*_, _/_, _^_};
 ghost use lib.ListN.{length};
 ghost use lib.IntN.{ℤ};
 ghost use lib.Seq.{sets};
@@ -83,7 +83,8 @@ fn stopped(c: Cursor, number: u8) -> Cursor
 // The two numbers of a row that say its role: the role's, and the programme that it speaks of.
 pub struct RoleNumbers(pub u8, pub u8);
 
-fn role_numbers(role: Role) -> RoleNumbers
+// (Public for the records that stand above the rows.)
+pub fn role_numbers(role: Role) -> RoleNumbers
     ensures { λ r. ⌜ r ≡ numbers.roleNumbers role ⌝ }
 {
     match role {
@@ -111,8 +112,8 @@ fn role_numbers(role: Role) -> RoleNumbers
     }
 }
 
-// A block, an index or a programme as a row says it.
-fn shown(n: u8) -> i32
+// A block, an index or a programme as a row says it. (Public for the same reason.)
+pub fn shown(n: u8) -> i32
     ensures { λ r. ⌜ r ≡ numbers.shown n ⌝ }
 {
     if n == NONE { -1 } else { n as i32 }
@@ -183,6 +184,25 @@ pub fn take(s: &[u8], rows: &mut [i32], c: Cursor, item: Item, width: u16) -> Ta
     let value = bits::get(s, c.at as usize, width as usize);
     let cursor = put(rows, c, item, width, value);
     Taken { value, cursor }
+}
+
+// The same value where frame, input and room were found to hold it: the cursor stands after it then, and counts one row more.
+pub fn take_at_hand(
+    s: &[u8],
+    rows: &mut [i32],
+    at: u16,
+    count: usize,
+    item: Item,
+    width: u16,
+) -> u32
+    requires { ⌜ (width ≤ 9) × (at + width < 65536) × (at / 8 + 1 < length (now s)) × (count * 8 + 8 ≤ length (now rows)) ⌝ }
+    ensures { λ r. ⌜ ((limit : ℕ) → at + width ≤ limit → Reads (grammar.take item width) (now (s .entry)) (record { at = at; limit = limit; count = count; stop = 0 }) (now (rows .entry))
+        r (record { at = at + width; limit = limit; count = count + 1; stop = 0 }) (now (rows .exit))) ⌝ }
+    ensures { λ r. ⌜ r < 2 ^ width ⌝ }
+{
+    let value = bits::get_at_hand(s, at as usize, width as usize);
+    write_row(rows, count * 8, item, at, width, value);
+    value
 }
 
 // A flag that was read, and where reading stands then.

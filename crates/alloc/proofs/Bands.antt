@@ -59,7 +59,7 @@ start-at l band e h =
     let back : band - 1 + 1 ≡ band = omega arith in
     end-at l (band - 1) e ∙ sym (start-after (band - 1)) ∙ ap startOf back
 
-pub start-zero : startOf 0 ≡ 0
+start-zero : startOf 0 ≡ 0
 unfolding startOf
 start-zero = refl
 

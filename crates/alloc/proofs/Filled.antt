@@ -4,7 +4,7 @@ use mathlib.Core.Path.{_≡_, refl, sym, ap, _∙_}
 use mathlib.Core.Bool.{Bool, true, false}
 use mathlib.Core.List.{List}
 use mathlib.Core.Logic.{_≢_}
-use Prim.Native.Nat.{ℕ, zero, suc, _+_, _≤_, _<_}
+use Prim.Native.Nat.{ℕ, zero, suc, _+_, _≤_, _<_, max}
 use native.Mathlib.Decide.{ℕ-discrete, decLe, decLt}
 use native.Mathlib.Nat.{le-refl}
 use native.Mathlib.Omega.{arith}
@@ -129,6 +129,14 @@ fills-rest d g from to {x} f k h = f .entries k ∙ filled-above g (λ j. getD x
 pub fills-empty : {A : Type 0} (d : A) (g : ℕ → A) (from to : ℕ) {x y : List A} → to ≤ from → Fills d from from g x y → Fills d from to g x y
 fills-empty d g from to {x} h f =
     record { long = f .long; entries = λ k. f .entries k ∙ filled-none g (λ j. getD x j d) from k ∙ sym (filled-empty g (λ j. getD x j d) from to h k) }
+
+-- a loop ends at its last place, or where it began
+pub fills-ended : {A : Type 0} (d : A) (g : ℕ → A) (from to place : ℕ) {x y : List A} → place ≤ max from to → max from to ≤ place → Fills d from place g x y → Fills d from to g x y
+fills-ended d g from to place {x} {y} low high f = by (decLe from to)
+  where
+    by : Dec (from ≤ to) → Fills d from to g x y
+    by (yes h) = let end : place ≡ to = omega arith in rw end at f
+    by (no h) = let none : place ≡ from = omega arith in fills-empty d g from to (omega arith) (rw none at f)
 
 -- an array that was all d
 pub fills-fresh : {A : Type 0} (d : A) (g : ℕ → A) (n from to : ℕ) {x l : List A} → x ≡ replicate n d → Fills d from to g x l → (k : ℕ) → getD l k d ≡ within d from to g k

@@ -2,11 +2,11 @@
 -- proves that the addresses are those of the definition. Assumes nothing.
 use mathlib.Core.List.{List}
 use Prim.Native.Nat.{ℕ, _+_, _*_}
-use lib.IntN.{ℤ, pos, _+ℤ_, _-ℤ_, _*ℤ_}
+use lib.IntN.{ℤ, pos, natAbs, _+ℤ_, _-ℤ_, _*ℤ_}
 use lib.ListN.{getD}
 use lib.Signed.{shrZ, _≤ℤ_}
 use Rattle.signed.specs.Level.{maxZ, clampZ}
-use Rattle.tables.specs.Tables.{hearing}
+use Rattle.tables.specs.Tables.{hearing, bap}
 use Rattle.alloc.specs.Alloc.{at, overKnee, threshold}
 
 -- every exponent is one
@@ -15,6 +15,10 @@ Exponents exponents = (bin : ℕ) → (pos 0 ≤ℤ at exponents bin) × (at exp
 
 abbrev pub Address : ℤ → Type 0
 Address z = (pos 0 ≤ℤ z) × (z ≤ℤ pos 63)
+
+-- the pointer at a bin's address
+abbrev pub bapAt : List ℤ → ℕ → ℕ
+bapAt addresses bin = getD bap (natAbs (at addresses bin)) 0
 
 -- a bin's level below that of exponent 0
 unfoldable pub relative : ℤ → ℤ

@@ -1,8 +1,8 @@
--- Values that document 01 gives, computed from the definitions. Assumes nothing.
+-- Values that document 01 gives, computed from the definitions, and some on which a slip would show. Assumes nothing.
 use mathlib.Core.Path.{_≡_, refl}
 use lib.IntN.{ℤ, pos, negsuc}
 use Rattle.tables.specs.Tables.{bandEnd, logAdd}
-use Rattle.alloc.specs.Alloc.{logadd, snrOffset, bandOf}
+use Rattle.alloc.specs.Alloc.{logadd, lowcomp, snrOffset, bandOf, kept, addressOf}
 use Rattle.alloc.specs.Delta.{deltaOf}
 
 -- (e) the bands of bins
@@ -24,3 +24,18 @@ deltas = (refl, refl, refl, refl)
 pub sums : (logadd (pos 3072) (pos 0) ≡ pos 3072) × (logadd (pos 3072) (pos 3072) ≡ pos 3136)
 unfolding logadd logAdd
 sums = (refl, refl)
+
+-- a rise by exactly 256 sets the compensation, and one by more does not
+pub compensations : (lowcomp (pos 0) (pos 0) (pos 256) 6 ≡ pos 384) × (lowcomp (pos 0) (pos 0) (pos 384) 6 ≡ pos 0)
+unfolding lowcomp
+compensations = (refl, refl)
+
+-- of a mask, bits 5 to 12 are kept
+pub bits-kept : kept (pos 16383) ≡ pos 8160
+unfolding kept
+bits-kept = refl
+
+-- an address is counted in steps of 32
+pub addresses : (addressOf (pos 64) (pos 0) ≡ 2) × (addressOf (pos 0) (pos 1) ≡ 0)
+unfolding addressOf
+addresses = (refl, refl)

@@ -1,8 +1,6 @@
 -- `alloc::add_delta` meets its contract. The loop's invariant is the definition's, up to `band`. Assumes nothing.
-use mathlib.Core.Path.{_≡_, _∙_, ap}
-use mathlib.Core.List.{List}
-use Prim.Native.Nat.{ℕ, _-_, _≤_, max}
-use native.Mathlib.Decide.{decLe}
+use mathlib.Core.Path.{_≡_, _∙_}
+use Prim.Native.Nat.{_-_, _≤_, max}
 use native.Mathlib.Omega.{arith}
 use borrow.Author.Needs.{needs}
 use lib.IntN.{ℤ, pos, _+ℤ_}
@@ -10,10 +8,10 @@ use lib.ListN.{getD}
 use mir.Syntax.{w32}
 use mir.Val.{toZ, ofZ, SFits}
 use mir.ValLaws.{toZ-ofZ}
-use Rattle.signed.specs.Bound.{Below, bounds, back-32, below-read}
+use Rattle.signed.specs.Bound.{bounds, back-32}
 use Rattle.alloc.specs.Alloc.{at}
 use Rattle.alloc.specs.Fills.{Fills}
-use Rattle.alloc.proofs.Filled.{fills-none, fills-set, fills-rest, fills-empty}
+use Rattle.alloc.proofs.Filled.{fills-none, fills-set, fills-rest, fills-ended}
 use Rattle.alloc.proofs.add_delta.Statement.{statement}
 use Rattle.alloc.proofs.add_delta.Tie as tie
 
@@ -37,13 +35,6 @@ module _ (c : tie.After-out Inv-loop μ-loop) where
       let d = c .before .before .before .pre .2 in
       search bounds depth 12
 
--- the loop ends at the last band, or where it began
-upTo : (s : tie.Start Inv-loop μ-loop) (band : ℕ) (out : List ℤ) → Fills (pos 0) (s .args .first) band (λ j. at (s .args .out .now) j +ℤ s .args .delta) (s .args .out .now) out
-    → band ≤ max (s .args .first) (s .args .last) → max (s .args .first) (s .args .last) ≤ band → Dec (s .args .first ≤ s .args .last)
-    → Fills (pos 0) (s .args .first) (s .args .last) (λ j. at (s .args .out .now) j +ℤ s .args .delta) (s .args .out .now) out
-upTo s band out f low high (yes h) = let end : band ≡ s .args .last = omega arith in rw end at f
-upTo s band out f low high (no h) = let none : band ≡ s .args .first = omega arith in fills-empty _ _ _ _ (omega arith) (rw none at f)
-
 pub add-delta-spec : {M : Type 1} → statement M
 add-delta-spec =
     tie.close
@@ -66,4 +57,4 @@ add-delta-spec =
     (λ c.
     let s = c .before .before in
     let filled = rw (toZ-ofZ w32 (s .args .delta) (s .fits .delta)) at (c .before .loop .inv .2) in
-    upTo s (c .before .loop .band) (c .before .loop .out) filled (omega arith) (omega arith) (decLe (s .args .first) (s .args .last))))
+    fills-ended _ _ _ _ _ (omega arith) (omega arith) filled))

@@ -1,0 +1,69 @@
+-- `alloc_c::exponents_fit` meets its contract. The loop's invariant: what was found so far and the exponents from `bin` on decide together.
+-- Assumes nothing.
+use mathlib.Core.Path.{_≡_, _∙_, refl, sym, ap}
+use mathlib.Core.Bool.{Bool, true, false}
+use mathlib.Core.List.{List, [], _∷_}
+use Prim.Native.Nat.{ℕ, suc, _+_, _-_, _≤_, _<_}
+use native.Mathlib.Omega.{arith}
+use borrow.Author.Needs.{needs}
+use lib.IntN.{ℤ}
+use lib.ListN.{length, drop, drop-of-length-le}
+use lib.Seq.{drop-cons}
+use Rattle.signed.specs.Level.{both}
+use Rattle.signed.specs.Bound.{back-16}
+use Rattle.alloc.specs.Alloc.{at}
+use Rattle.alloc_c.specs.Accepted.{isExponent, exponentsFit}
+use Rattle.alloc_c.proofs.exponents_fit.Statement.{statement}
+use Rattle.alloc_c.proofs.exponents_fit.Tie as tie
+
+abbrev Inv-loop : tie.InvT-loop
+Inv-loop exponents fit₀ bin₀ fit bin = (bin ≤ 256) × (exponentsFit exponents ≡ both fit (exponentsFit (drop bin exponents)))
+
+abbrev μ-loop : tie.MeasureT-loop
+μ-loop exponents fit₀ bin₀ fit bin = 256 - bin
+
+both-both : (a b c : Bool) → both a (both b c) ≡ both (both a b) c
+both-both true b c = refl
+both-both false b c = refl
+
+both-yes : (a : Bool) → both a true ≡ a
+both-yes true = refl
+both-yes false = refl
+
+-- one exponent more
+one-more : (es : List ℤ) (bin : ℕ) (fit t : Bool) → bin < length es → t ≡ both fit (isExponent (at es bin)) → both fit (exponentsFit (drop bin es)) ≡ both t (exponentsFit (drop (bin + 1) es))
+unfolding exponentsFit
+one-more es bin fit t h e =
+    let next : bin + 1 ≡ suc bin = omega arith in
+    let here : exponentsFit (drop bin es) ≡ both (isExponent (at es bin)) (exponentsFit (drop (suc bin) es)) = ap exponentsFit (drop-cons es bin _ h) in
+    rw (e, next, here) (both-both fit (isExponent (at es bin)) (exponentsFit (drop (suc bin) es)))
+
+pub exponents-fit-spec : {M : Type 1} → statement M
+unfolding exponentsFit
+exponents-fit-spec =
+    tie.close
+    (tie.spec
+    Inv-loop
+    μ-loop
+    (λ c. (omega arith, refl))
+    (λ c. search needs)
+    (λ c. search needs)
+    (λ c κs. search needs)
+    (λ c κs. search needs)
+    (λ c. search needs)
+    (λ c. search needs)
+    (λ c.
+    let test = c .before in
+    let turn = test .before .before .before in
+    let es = turn .before .args .t1 in
+    let bin = turn .loop .bin in
+    let long : length es ≡ 256 = search needs in
+    let e = at es bin in
+    let is : c .both .result ≡ both (turn .loop .fit) (isExponent e) = c .both .ensures ∙ ap (both (turn .loop .fit)) (rw (back-16 e (test .before .is-exponent-arg .given)) at (test .is-exponent .ensures)) in
+    (omega arith, turn .loop .inv .1 ∙ one-more es bin (turn .loop .fit) (c .both .result) (omega (arith, long)) is))
+    (λ c.
+    let turn = c .before in
+    let es = turn .before .args .t1 in
+    let long : length es ≡ 256 = search needs in
+    let none : drop (turn .loop .bin) es ≡ [] = drop-of-length-le es {i = turn .loop .bin} (omega arith) in
+    sym (turn .loop .inv .1 ∙ ap (λ (l : List ℤ). both (turn .loop .fit) (exponentsFit l)) none ∙ both-yes (turn .loop .fit))))

@@ -89,6 +89,8 @@ pub fn audio(s: &[u8], rows: &mut [i32], c: Cursor, header: Header) -> AudioRead
     ensures { λ r. ⌜ Reads (grammar.audio header) (now (s .entry)) c (now (rows .entry)) (record { header = header; tally = r .tally; end = r .cursor .at }) (r .cursor) (now (rows .exit)) ⌝ }
 {
     let mut exps = [[0i16; 256]; 7];
+    let mut memos = [[0u32; 16]; 7];
+    let mut origins = [[0i16; 256]; 7];
     let mut state = unsent();
     let mut tally = uncounted();
     let mut cursor = c;
@@ -96,7 +98,18 @@ pub fn audio(s: &[u8], rows: &mut [i32], c: Cursor, header: Header) -> AudioRead
         if cursor.stop != 0 {
             return AudioRead { tally, cursor };
         }
-        let block = audio_block(s, rows, cursor, &mut exps, header, blk, state, tally);
+        let block = audio_block(
+            s,
+            rows,
+            cursor,
+            &mut exps,
+            &mut memos,
+            &mut origins,
+            header,
+            blk,
+            state,
+            tally,
+        );
         state = block.state;
         tally = block.tally;
         cursor = block.cursor;

@@ -28,6 +28,7 @@ ghost use Prim.Native.Nat.{ℕ, _+_, _<_, _≤_};
 ghost use Rattle.syntax.specs.Grammar as syntax;
 ghost use Rattle.syntax.specs.Reads.{Reads};
 ghost use Rattle.blocks.specs.Sound.{SoundAlloc, SoundExps};
+ghost use Rattle.blocks.specs.Kept.{Kept};
 ghost use Rattle.ac3.specs.AudioBlock as grammar;
 ghost use Rattle.ac3.specs.Header as header;
 ghost use Rattle.ac3.specs.Sound.{SoundHeader, SoundState};
@@ -175,12 +176,14 @@ pub struct BlockRead {
     pub cursor: Cursor,
 }
 
-// The exponents in force stand beside the state.
+// The exponents in force stand beside the state, and so does what was counted of the slots before.
 pub fn audio_block(
     s: &[u8],
     rows: &mut [i32],
     c: Cursor,
     exps: &mut [[i16; 256]; 7],
+    memos: &mut [[u32; 16]; 7],
+    origins: &mut [[i16; 256]; 7],
     header: Header,
     blk: u8,
     old: State,
@@ -190,10 +193,12 @@ pub fn audio_block(
     requires { ⌜ SoundHeader header ⌝ }
     requires { ⌜ SoundState old ⌝ }
     requires { ⌜ SoundExps (now exps) ⌝ }
+    requires { ⌜ Kept (header .fscod) (now memos) (now origins) ⌝ }
     ensures { λ r. ⌜ Reads (grammar.audioBlock header blk (record { state = old; exps = now (exps .entry); tally = tally })) (now (s .entry)) c (now (rows .entry)) (record { state = r .state; exps = now (exps .exit); tally = r .tally }) (r .cursor) (now (rows .exit)) ⌝ }
     ensures { λ r. ⌜ SoundState (r .state) ⌝ }
     ensures { λ r. ⌜ SoundExps (now (exps .exit)) ⌝ }
     ensures { λ r. ⌜ r .tally .coupled ≤ blk + 1 ⌝ }
+    ensures { λ _. ⌜ Kept (header .fscod) (now (memos .exit)) (now (origins .exit)) ⌝ }
 {
     let start = c.at;
     let fscod = header.fscod;
@@ -242,7 +247,20 @@ pub fn audio_block(
     let bai = alloc_state(s, rows, exp.cursor, blk, n, cplinu, lfeon, old.alloc);
     let alloc = bai.alloc;
     let at = skip_field(s, rows, bai.cursor, blk);
-    let mant = mantissas(rows, at, blk, fscod, n, lfeon, coupling, ends, alloc, exps);
+    let mant = mantissas(
+        rows,
+        at,
+        blk,
+        fscod,
+        n,
+        lfeon,
+        coupling,
+        ends,
+        alloc,
+        exps,
+        memos,
+        origins,
+    );
     let cursor = mant.cursor;
     let chincpl = coupling.chincpl;
     let cplcoe = coordinates.set;

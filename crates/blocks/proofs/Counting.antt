@@ -3,19 +3,24 @@
 use mathlib.Core.Bool.{Bool, true, false, cond}
 use mathlib.Core.List.{List, [], _∷_, _++_}
 use mathlib.Core.Path.{_≡_, refl, ap, sym, _∙_}
-use Prim.Native.Nat.{ℕ, suc, _+_, _-_, _*_, _/_, _%_, _≤_}
+use Prim.Native.Nat.{ℕ, zero, suc, _+_, _-_, _*_, _/_, _%_, _≤_}
 use native.Mathlib.Nat.{mod-add-mod, zero-add, add-zero, add-suc, suc-add, add-assoc}
 use native.Mathlib.Omega.{arith}
 use lib.Dec.{eqb}
-use lib.ListN.{length, getD}
+use lib.IntN.{ℤ}
+use lib.ListN.{length, replicate}
 use borrow.Author.Tests.{eqb-true, eqb-false}
+use Rattle.alloc.specs.Listed.{pointerList}
+use Rattle.alloc.specs.Steps.{bapAt}
 use Rattle.syntax.specs.Run.{sum}
 use Rattle.tables.specs.Tables.{bapBits, mantissaBits}
 use Rattle.tables.proofs.Rules.{small-at}
-use Rattle.blocks.specs.Counts.{between, noCounts, isPointer, counted, countedAll, plus, widthOf, openAfter, AtMost, packed, weight}
-use Rattle.blocks.specs.Mantissas.{Open, noneOpen, bitsOf, nowOpen, widths}
+use Rattle.blocks.specs.Counts.{pointersAt, noCounts, isPointer, counted, countedAll, plus, widthOf, openAfter, AtMost, packed, weight}
+use Rattle.blocks.specs.Mantissas.{Open, noneOpen, bitsOf, nowOpen, widths, pointers}
+use Rattle.blocks.specs.declared.AllocState.{AllocState}
 use Rattle.blocks.specs.declared.Counts.{Counts}
-use Rattle.blocks.proofs.Between.{between-none, between-one, from-length}
+use Rattle.blocks.specs.declared.Part.{Part}
+use Rattle.blocks.proofs.Between.{from-none, from-one, from-length}
 
 -- ---- one mantissa more
 
@@ -93,10 +98,11 @@ counted-added n baps = ap (λ m. countedAll m baps) none ∙ counted-plus n noCo
     }
 
 -- a single bin
-pub counted-one : (n : Counts) (baps : List ℕ) (bin : ℕ) → plus n (countedAll noCounts (between 0 baps bin (bin + 1))) ≡ counted n (getD baps bin 0)
+pub counted-one : (n : Counts) (addresses : List ℤ) (bin : ℕ) → plus n (countedAll noCounts (pointersAt addresses bin (bin + 1))) ≡ counted n (bapAt addresses bin)
 unfolding countedAll
-counted-one n baps bin =
-    sym (counted-added n (between 0 baps bin (bin + 1))) ∙ rw (between-one 0 baps {i = bin} {last = bin + 1} (omega arith), between-none 0 baps {i = bin + 1} {last = bin + 1} (omega arith))
+counted-one n addresses bin =
+    let f = bapAt addresses in
+    sym (counted-added n (pointersAt addresses bin (bin + 1))) ∙ rw (from-one f {i = bin} {last = bin + 1} (omega arith), from-none f {i = bin + 1} {last = bin + 1} (omega arith))
 
 -- ---- none is large
 
@@ -143,11 +149,11 @@ pub none-counted : AtMost 0 noCounts
 none-counted = record { bits = omega arith; ones = omega arith; twos = omega arith; fours = omega arith }
 
 -- the bins of a slot
-pub bins-few : (baps : List ℕ) (start end : ℕ) → end ≤ 253 → length (between 0 baps start end) ≤ 253
-bins-few baps start end h = rw (from-length (λ k. getD baps k 0) (end - start) start) (omega arith)
+pub bins-few : (addresses : List ℤ) (start end : ℕ) → end ≤ 253 → length (pointersAt addresses start end) ≤ 253
+bins-few addresses start end h = rw (from-length (bapAt addresses) (end - start) start) (omega arith)
 
-pub bins-at-most : {k : ℕ} (n : Counts) (baps : List ℕ) (start end : ℕ) → end ≤ 253 → AtMost k n → AtMost (k + 253) (countedAll n (between 0 baps start end))
-bins-at-most n baps start end h g = no-more (at-most n (between 0 baps start end) g) (omega (arith, bins-few baps start end h))
+pub bins-at-most : {k : ℕ} (n : Counts) (addresses : List ℤ) (start end : ℕ) → end ≤ 253 → AtMost k n → AtMost (k + 253) (countedAll n (pointersAt addresses start end))
+bins-at-most n addresses start end h g = no-more (at-most n (pointersAt addresses start end) g) (omega (arith, bins-few addresses start end h))
 
 -- ---- all counts in one number
 
@@ -173,3 +179,19 @@ unpacked total baps e h =
     let twos : total / 4294967296 % 65536 ≡ n .twos = rw past-ones (omega arith) in
     let fours : total / 281474976710656 ≡ n .fours = omega arith in
     λ i. record { bits = bits i; ones = ones i; twos = twos i; fours = fours i }
+
+-- the pointers of a slot are as many as its bins
+pub pointers-at-most : (fscod : ℕ) (st : AllocState) (exps : List (List ℤ)) (p : Part) → p .end ≤ 253 → AtMost 253 (countedAll noCounts (pointers fscod st exps p))
+unfolding pointers pointerList
+pointers-at-most fscod st exps p h =
+    no-more (at-most noCounts (pointers fscod st exps p) none-counted) (rw (from-length _ (p .end - p .start) (p .start)) (omega arith))
+
+-- pointers that are all 0 count for nothing
+pub silent-counts : (n : ℕ) → noCounts ≡ countedAll noCounts (replicate n 0)
+unfolding countedAll bapBits
+silent-counts zero = refl
+silent-counts (suc n) = silent-counts n
+
+pub plus-at-most : {i j k : ℕ} {a b : Counts} → AtMost i a → AtMost j b → i + j ≤ k → AtMost k (plus a b)
+plus-at-most f g h =
+    record { bits = omega (arith, f .bits, g .bits); ones = omega (arith, f .ones, g .ones); twos = omega (arith, f .twos, g .twos); fours = omega (arith, f .fours, g .fours) }

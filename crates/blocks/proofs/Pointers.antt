@@ -1,52 +1,25 @@
--- The pointers of a slot: an array that has the allocation at every bin lists the definition's, and each is below 16. Assumes nothing.
-use mathlib.Core.Bool.{Bool, true, false}
+-- The pointers of a slot: an array of addresses at which the allocation stands lists the definition's. Assumes nothing.
+use mathlib.Core.Bool.{Bool}
 use mathlib.Core.List.{List, [], _++_}
 use mathlib.Core.Path.{_≡_, ap, sym, _∙_}
-use Prim.Native.Nat.{ℕ, suc, _+_, _-_, _*_, _<_, _^_, suc-le-suc}
+use Prim.Native.Nat.{ℕ, _+_, _-_, _≤_, _<_}
 use native.Mathlib.Omega.{arith}
-use lib.Dec.{leb, ltb}
-use lib.IntN.{ℤ, pos, negsuc, _+ℤ_, _-ℤ_, _*ℤ_}
-use lib.ListN.{getD}
-use lib.Signed.{mag, shrZ}
-use Rattle.signed.specs.Bound.{Below, bounds, below-16, neg-pos}
-use Rattle.signed.specs.Level.{pick, both, clampZ}
+use lib.IntN.{ℤ, pos, natAbs}
+use lib.ListN.{getD, replicate}
 use Rattle.tables.specs.Tables.{bap, knee, floor}
-use Rattle.tables.proofs.Rules.{small-at}
-use Rattle.alloc.specs.Alloc.{snrOffset, psd, bandOf, addressOf, bapOf}
-use Rattle.alloc.specs.Allocation.{allocation, thresholdsOf}
+use Rattle.alloc.specs.Alloc.{snrOffset}
+use Rattle.alloc.specs.Allocation.{allocation}
 use Rattle.alloc.specs.Listed.{from}
+use Rattle.alloc.specs.Steps.{bapAt}
 use Rattle.alloc.proofs.Listed.{pointers-listed}
-use Rattle.alloc.proofs.Filled.{everywhere}
-use Rattle.blocks.specs.Counts.{between, noPart}
+use Rattle.alloc.proofs.Filled.{everywhere, cleared}
+use Rattle.blocks.specs.Counts.{between, Addresses, pointersAt, noPart}
 use Rattle.blocks.specs.Mantissas.{leakBefore, gainsOf, deltasOf, pointers, partPointers, allPointers}
-use Rattle.blocks.specs.Sound.{Entries}
 use Rattle.blocks.specs.declared.AllocState.{AllocState}
 use Rattle.blocks.specs.declared.Part.{Part}
-use Rattle.blocks.proofs.Between.{between-one}
+use Rattle.blocks.proofs.Between.{between-one, from-same, from-constant}
 
--- ---- the offset of the signal to noise ratio is small enough for the allocation
-
-four : (z : ℤ) {n : ℕ} → mag z < n → mag (z *ℤ pos 4) < n * 4
-four (pos a) h = omega arith
-four (negsuc a) h = rw (neg-pos (suc a * 4) (omega arith)) (omega arith)
-
-pub snr-below : (coarse fine : ℕ) → coarse < 64 → fine < 16 → Below 20 (snrOffset coarse fine)
-unfolding snrOffset
-snr-below coarse fine h g =
-    let small : Below 6 (pos coarse) × Below 4 (pos fine) = omega arith in
-    let sum : Below 12 ((pos coarse -ℤ pos 15) *ℤ pos 16 +ℤ pos fine) = search (bounds, below-16) depth 12 in
-    let all : mag (((pos coarse -ℤ pos 15) *ℤ pos 16 +ℤ pos fine) *ℤ pos 4) < 2 ^ 12 * 4 = four ((pos coarse -ℤ pos 15) *ℤ pos 16 +ℤ pos fine) (sum .below) in
-    record { below = omega arith }
-
--- ---- the allocation of a slot, and an array that has it
-
-pick-small : (t : Bool) (n : ℕ) → n < 16 → pick t n 0 < 16
-pick-small true n h = h
-pick-small false n h = omega arith
-
-bap-small : (level threshold : ℤ) → bapOf level threshold < 16
-unfolding bapOf addressOf bap
-bap-small level threshold = suc-le-suc (small-at 15 bap tt (clampZ (shrZ (level -ℤ threshold) 32) 63))
+-- ---- the allocation of a slot, and an array of addresses that leads to it
 
 module _ (fscod : ℕ) (st : AllocState) (exps : List (List ℤ)) (p : Part) where
   abbrev row : List ℤ
@@ -55,24 +28,24 @@ module _ (fscod : ℕ) (st : AllocState) (exps : List (List ℤ)) (p : Part) whe
   abbrev snr : ℤ
   snr = snrOffset (st .offsets .csnroffst) (getD (st .offsets .fsnroffst) (p .slot) 0)
 
-  abbrev limits : ℕ → ℤ
-  limits = thresholdsOf row (p .start) (p .end) (gainsOf st (p .slot)) (knee (st .curve .dbpbcod)) fscod (leakBefore (st .leak) (p .slot)) snr (floor (st .curve .floorcod))
-      (deltasOf st (p .slot) .segments) (deltasOf st (p .slot) .count)
-
   abbrev pub slotAllocation : ℕ → ℕ
   slotAllocation = allocation row (p .start) (p .end) (gainsOf st (p .slot)) (knee (st .curve .dbpbcod)) fscod (leakBefore (st .leak) (p .slot)) snr (floor (st .curve .floorcod))
       (deltasOf st (p .slot) .segments) (deltasOf st (p .slot) .count)
 
-  module _ (r : List ℕ) (is : (bin : ℕ) → getD r bin 0 ≡ slotAllocation bin) where
-    pub lists : between 0 r (p .start) (p .end) ≡ pointers fscod st exps p
-    unfolding pointers
-    lists =
-        ap (from (p .start) (p .end - p .start)) (everywhere is)
-        ∙ sym (pointers-listed row (p .start) (p .end) (gainsOf st (p .slot)) (knee (st .curve .dbpbcod)) fscod (leakBefore (st .leak) (p .slot)) snr (floor (st .curve .floorcod))
-        (deltasOf st (p .slot) .segments) (deltasOf st (p .slot) .count))
+  pub lists : (r : List ℤ) → ((bin : ℕ) → p .start ≤ bin → bin < p .end → bapAt r bin ≡ slotAllocation bin) → pointersAt r (p .start) (p .end) ≡ pointers fscod st exps p
+  unfolding pointers
+  lists r is =
+      from-same (p .end - p .start) (p .start) (λ bin from to. is bin from (omega arith))
+      ∙ sym (pointers-listed row (p .start) (p .end) (gainsOf st (p .slot)) (knee (st .curve .dbpbcod)) fscod (leakBefore (st .leak) (p .slot)) snr (floor (st .curve .floorcod))
+      (deltasOf st (p .slot) .segments) (deltasOf st (p .slot) .count))
 
-    pub small : Entries r 16
-    small bin = rw (is bin) (pick-small (both (leb (p .start) bin) (ltb bin (p .end))) _ (bap-small (psd row (p .start) (p .end) bin) (limits (bandOf bin))))
+-- where every address is 0, so is every pointer
+pub silent-lists : (n first last : ℕ) → pointersAt (replicate n (pos 0)) first last ≡ replicate (last - first) 0
+unfolding bap
+silent-lists n first last = ap (from first (last - first)) (everywhere (λ bin. ap (λ z. getD bap (natAbs z) 0) (cleared n bin))) ∙ from-constant 0 (last - first) first
+
+pub silent-addresses : (n first last : ℕ) → Addresses (replicate n (pos 0)) first last
+silent-addresses n first last bin from to = rw (cleared n bin) (record { le = tt }, record { le = tt })
 
 -- the slots that are left, and then those after the first of them
 pub first-part : (fscod : ℕ) (st : AllocState) (exps : List (List ℤ)) (quiet : Bool) (list : List Part) {i count : ℕ} → i < count

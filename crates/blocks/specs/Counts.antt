@@ -4,8 +4,11 @@ use mathlib.Core.Bool.{cond}
 use mathlib.Core.List.{List, [], _∷_}
 use Prim.Native.Nat.{ℕ, _+_, _-_, _*_, _/_, _%_, _<_, _≤_}
 use lib.Dec.{eqb}
+use lib.IntN.{ℤ}
 use lib.ListN.{getD}
+use Rattle.alloc.specs.Alloc.{at}
 use Rattle.alloc.specs.Listed.{from}
+use Rattle.alloc.specs.Steps.{Address, bapAt}
 use Rattle.tables.specs.Tables.{bapBits}
 use Rattle.blocks.specs.Mantissas.{Open}
 use Rattle.blocks.specs.Slots.{part}
@@ -18,6 +21,13 @@ use Rattle.blocks.specs.declared.Parts.{Parts}
 abbrev pub between : {A : Type 0} → A → List A → (first last : ℕ) → List A
 between d l first last = from first (last - first) (λ k. getD l k d)
 
+-- the same of the pointers at the addresses in an array
+abbrev pub pointersAt : List ℤ → (first last : ℕ) → List ℕ
+pointersAt addresses first last = from first (last - first) (bapAt addresses)
+
+abbrev pub Addresses : List ℤ → (first last : ℕ) → Type 0
+Addresses addresses first last = (bin : ℕ) → first ≤ bin → bin < last → Address (at addresses bin)
+
 abbrev pub noPart : Part
 noPart = part 0 0 0
 
@@ -26,6 +36,7 @@ listed ps = between noPart (ps .list) 0 (ps .count)
 
 pub record SoundPart (p : Part) : Type 0 where
   pub slot : p .slot < 7
+  pub start : p .start ≤ 253
   pub end : p .end ≤ 253
 
 pub record SoundParts (ps : Parts) : Type 0 where

@@ -4,4 +4,6 @@ pub mod Parameters
 pub mod Delta
 pub mod Mantissas
 pub mod Counts
+pub mod Kept
+pub mod AtHand
 pub mod Sound

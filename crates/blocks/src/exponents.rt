@@ -12,17 +12,18 @@ use syntax::Item;
 use syntax::Role;
 use syntax::names;
 ghost use mathlib.Core.Path.{_≡_};
-ghost use mathlib.Core.Bool.{_||_, cond};
-ghost use Prim.Native.Nat.{ℕ, _+_, _*_, _-_, _<_, _≤_};
+ghost use mathlib.Core.Bool.{true, _||_, cond};
+ghost use Prim.Native.Nat.{ℕ, _+_, _*_, _-_, _/_, _%_, _<_, _≤_};
 ghost use mathlib.Core.List.{List};
 ghost use lib.Dec.{eqb, ltb};
 ghost use lib.IntN.{ℤ, pos};
-ghost use lib.ListN.{replicate};
+ghost use lib.ListN.{length, replicate};
 ghost use lib.Seq.{sets};
 ghost use Rattle.syntax.specs.Grammar.{for, readIf};
 ghost use Rattle.syntax.specs.Reads.{Reads};
 ghost use Rattle.blocks.specs.Slots as slots;
 ghost use Rattle.blocks.specs.Exponents as grammar;
+ghost use Rattle.blocks.specs.AtHand.{Differences, AtHand};
 ghost use Rattle.blocks.specs.Sound.{SoundRow, SoundUnpacked, SoundExps, Entries, SoundCoupling, SoundStrategies, SoundEnds};
 
 // ---- one set
@@ -141,8 +142,194 @@ fn group(
     }
 }
 
-// All groups of a set.
-fn groups(
+// The three differences of each group, 4 bits for each: looked up instead of divided.
+const DIFFERENCES: [u16; 125] = [
+    0,
+    256,
+    512,
+    768,
+    1024,
+    16,
+    272,
+    528,
+    784,
+    1040,
+    32,
+    288,
+    544,
+    800,
+    1056,
+    48,
+    304,
+    560,
+    816,
+    1072,
+    64,
+    320,
+    576,
+    832,
+    1088,
+    1,
+    257,
+    513,
+    769,
+    1025,
+    17,
+    273,
+    529,
+    785,
+    1041,
+    33,
+    289,
+    545,
+    801,
+    1057,
+    49,
+    305,
+    561,
+    817,
+    1073,
+    65,
+    321,
+    577,
+    833,
+    1089,
+    2,
+    258,
+    514,
+    770,
+    1026,
+    18,
+    274,
+    530,
+    786,
+    1042,
+    34,
+    290,
+    546,
+    802,
+    1058,
+    50,
+    306,
+    562,
+    818,
+    1074,
+    66,
+    322,
+    578,
+    834,
+    1090,
+    3,
+    259,
+    515,
+    771,
+    1027,
+    19,
+    275,
+    531,
+    787,
+    1043,
+    35,
+    291,
+    547,
+    803,
+    1059,
+    51,
+    307,
+    563,
+    819,
+    1075,
+    67,
+    323,
+    579,
+    835,
+    1091,
+    4,
+    260,
+    516,
+    772,
+    1028,
+    20,
+    276,
+    532,
+    788,
+    1044,
+    36,
+    292,
+    548,
+    804,
+    1060,
+    52,
+    308,
+    564,
+    820,
+    1076,
+    68,
+    324,
+    580,
+    836,
+    1092,
+];
+
+fn differences() -> [u16; 125]
+    ensures { λ r. ⌜ Differences r ⌝ }
+{
+    DIFFERENCES
+}
+
+// A refusal, or the last exponent, in one number: what is at least this is a refusal.
+const REFUSED: u32 = 32;
+
+// Group number n where frame, input and room were found to hold it: a refusal, or the last exponent.
+fn group_at_hand(
+    s: &[u8],
+    rows: &mut [i32],
+    at: u16,
+    count: usize,
+    row: &mut [i16; 256],
+    differences: &[u16; 125],
+    item: Item,
+    strategy: u8,
+    first: usize,
+    n: usize,
+    last: u32,
+) -> u32
+    requires { ⌜ strategy < 4 ⌝ }
+    requires { ⌜ first + n * (3 * grammar.binsEach strategy) + 3 * grammar.binsEach strategy ≤ 256 ⌝ }
+    requires { ⌜ SoundUnpacked (record { last = last; row = now row }) ⌝ }
+    requires { ⌜ Differences (now differences) ⌝ }
+    requires { ⌜ (at + 7 < 65536) × (at / 8 + 1 < length (now s)) × (count * 8 + 8 ≤ length (now rows)) ⌝ }
+    ensures { λ r. ⌜ ((limit : ℕ) → at + 7 ≤ limit
+        → Reads (grammar.group item (grammar.binsEach strategy) first n (record { last = last; row = now (row .entry) })) (now (s .entry))
+        (record { at = at; limit = limit; count = count; stop = 0 }) (now (rows .entry))
+        (record { last = r % 32; row = now (row .exit) }) (record { at = at + 7; limit = limit; count = count + 1; stop = r / 32 }) (now (rows .exit))) ⌝ }
+    ensures { λ r. ⌜ SoundUnpacked (record { last = r % 32; row = now (row .exit) }) ⌝ }
+    ensures { λ r. ⌜ r < 32 * 256 ⌝ }
+{
+    let grouped = syntax::take_at_hand(s, rows, at, count, item, 7);
+    if 124 < grouped {
+        return 16 * REFUSED;
+    }
+    let three = differences[grouped as usize] as u32;
+    let x = last + three % 16;
+    if outside(x) {
+        return 17 * REFUSED;
+    }
+    let y = x - 2 + three / 16 % 16;
+    if outside(y) {
+        return 17 * REFUSED;
+    }
+    let z = y - 2 + three / 256;
+    if outside(z) {
+        return 17 * REFUSED;
+    }
+    let bin = first + n * (3 * bins_each(strategy));
+    spread(row, bin, strategy, x - 2, y - 2, z - 2);
+    z - 2
+}
+
+// All groups of a set, one by one.
+fn groups_in_doubt(
     s: &[u8],
     rows: &mut [i32],
     c: Cursor,
@@ -171,6 +358,120 @@ fn groups(
         last: exponent,
         cursor,
     }
+}
+
+// All groups of a set where frame, input and room were found to hold them.
+fn groups_at_hand(
+    s: &[u8],
+    rows: &mut [i32],
+    c: Cursor,
+    row: &mut [i16; 256],
+    item: Item,
+    strategy: u8,
+    first: usize,
+    count: usize,
+    last: u32,
+) -> GroupRead
+    requires { ⌜ strategy < 4 ⌝ }
+    requires { ⌜ first + count * (3 * grammar.binsEach strategy) ≤ 256 ⌝ }
+    requires { ⌜ SoundUnpacked (record { last = last; row = now row }) ⌝ }
+    requires { ⌜ AtHand c count (now s) (now rows) ⌝ }
+    ensures { λ r. ⌜ Reads (for 0 count (record { last = last; row = now (row .entry) }) (grammar.group item (grammar.binsEach strategy) first)) (now (s .entry)) c (now (rows .entry))
+        (record { last = r .last; row = now (row .exit) }) (r .cursor) (now (rows .exit)) ⌝ }
+    ensures { λ r. ⌜ SoundUnpacked (record { last = r .last; row = now (row .exit) }) ⌝ }
+{
+    let differences = differences();
+    let limit = c.limit;
+    let mut exponent = last;
+    let mut at = c.at;
+    let mut at_row = c.count;
+    for n in 0..count {
+        let next = group_at_hand(
+            s,
+            rows,
+            at,
+            at_row,
+            row,
+            &differences,
+            item,
+            strategy,
+            first,
+            n,
+            exponent,
+        );
+        at += 7;
+        at_row += 1;
+        if REFUSED <= next {
+            return GroupRead {
+                last: next % REFUSED,
+                cursor: Cursor {
+                    at,
+                    limit,
+                    count: at_row,
+                    stop: (next / REFUSED) as u8,
+                },
+            };
+        }
+        exponent = next;
+    }
+    GroupRead {
+        last: exponent,
+        cursor: Cursor {
+            at,
+            limit,
+            count: at_row,
+            stop: 0,
+        },
+    }
+}
+
+// Whether frame, input and room hold so many groups.
+fn all_at_hand(s: &[u8], rows: &[i32], c: Cursor, count: usize) -> bool
+    ensures { λ r. ⌜ (r ≡ true → AtHand c count (now (s .entry)) (now (rows .entry))) ⌝ }
+{
+    if c.stop != 0 {
+        return false;
+    }
+    let left = rows.len() / 8;
+    if left < count {
+        return false;
+    }
+    if left - count < c.count {
+        return false;
+    }
+    let end = c.at as usize + 7 * count;
+    if (c.limit as usize) < end {
+        return false;
+    }
+    if s.len() < end / 8 + 2 {
+        return false;
+    }
+    true
+}
+
+// All groups of a set.
+fn groups(
+    s: &[u8],
+    rows: &mut [i32],
+    c: Cursor,
+    row: &mut [i16; 256],
+    item: Item,
+    strategy: u8,
+    first: usize,
+    count: usize,
+    last: u32,
+) -> GroupRead
+    requires { ⌜ strategy < 4 ⌝ }
+    requires { ⌜ first + count * (3 * grammar.binsEach strategy) ≤ 256 ⌝ }
+    requires { ⌜ SoundUnpacked (record { last = last; row = now row }) ⌝ }
+    ensures { λ r. ⌜ Reads (for 0 count (record { last = last; row = now (row .entry) }) (grammar.group item (grammar.binsEach strategy) first)) (now (s .entry)) c (now (rows .entry))
+        (record { last = r .last; row = now (row .exit) }) (r .cursor) (now (rows .exit)) ⌝ }
+    ensures { λ r. ⌜ SoundUnpacked (record { last = r .last; row = now (row .exit) }) ⌝ }
+{
+    if all_at_hand(s, &*rows, c, count) {
+        return groups_at_hand(s, rows, c, row, item, strategy, first, count, last);
+    }
+    groups_in_doubt(s, rows, c, row, item, strategy, first, count, last)
 }
 
 // What the groups of a set begin with: the exponent of bin 0; for coupling it is doubled and stands for no bin.

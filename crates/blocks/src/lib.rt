@@ -4,6 +4,7 @@ pub mod delta;
 pub mod exponents;
 pub mod mantissas;
 pub mod parameters;
+mod weights;
 
 ghost use mathlib.Core.Path.{_≡_};
 ghost use Prim.Native.Nat.{_<_};

@@ -11,6 +11,10 @@ use crate::LFE;
 use crate::Offsets;
 use crate::Part;
 use crate::Parts;
+use crate::weights::BY_ADDRESS;
+use crate::weights::FOUR;
+use crate::weights::ONE;
+use crate::weights::TWO;
 use alloc::Gains;
 use alloc::Leak;
 use syntax::Cursor;
@@ -19,10 +23,12 @@ use syntax::NONE;
 use syntax::Role;
 use syntax::names;
 ghost use mathlib.Core.Path.{_≡_};
-ghost use mathlib.Core.Bool.{cond};
+ghost use mathlib.Core.Bool.{true, false, cond};
 ghost use mathlib.Core.List.{List, [], _∷_, _++_};
 ghost use Prim.Native.Nat.{ℕ, suc, _+_, _*_, _<_, _≤_};
-ghost use lib.ListN.{getD, replicate};
+ghost use lib.IntN.{pos};
+ghost use lib.ListN.{length, getD, replicate};
+ghost use Rattle.tables.specs.Tables.{bap};
 ghost use Rattle.alloc.specs.Excite.{Bounded};
 ghost use Rattle.syntax.specs.Reads.{Reads, walked};
 ghost use Rattle.blocks.specs.Delta.{noDeltas};
@@ -30,8 +36,9 @@ ghost use Rattle.blocks.specs.Mantissas as grammar;
 ghost use Rattle.blocks.specs.Mantissas.{noneOpen, widths, allPointers, partPointers};
 ghost use Rattle.blocks.specs.Slots as slots;
 ghost use Rattle.blocks.specs.Slots.{part};
-ghost use Rattle.blocks.specs.Counts.{between, listed, SoundPart, SoundParts, noCounts, counted, countedAll, plus, widthOf, openAfter, AtMost, isPointer, packed};
-ghost use Rattle.blocks.specs.Sound.{Entries, SoundCoupling, SoundEnds, SoundAlloc, SoundLeak, SoundSegments, SoundExps};
+ghost use Rattle.blocks.specs.Counts.{Addresses, pointersAt, listed, SoundPart, SoundParts, noCounts, counted, countedAll, plus, widthOf, openAfter, AtMost, packed};
+ghost use Rattle.blocks.specs.Kept.{memoOf, countsIn, SameBasis, SameRow, Kept};
+ghost use Rattle.blocks.specs.Sound.{SoundCoupling, SoundEnds, SoundAlloc, SoundLeak, SoundSegments, SoundExps};
 
 // ---- the slots in use
 
@@ -212,11 +219,11 @@ fn deltas_of(st: AllocState, slot: u8) -> Deltas
     st.deltas[at]
 }
 
-// The pointers of a slot's bins.
-fn slot_pointers(fscod: u8, st: AllocState, exps: &[[i16; 256]; 7], p: Part) -> [u8; 256]
-    requires { ⌜ (fscod < 3) × SoundAlloc st × SoundExps (now exps) × SoundPart p ⌝ }
-    ensures { λ r. ⌜ between 0 r (p .start) (p .end) ≡ grammar.pointers fscod st (now (exps .entry)) p ⌝ }
-    ensures { λ r. ⌜ Entries r 16 ⌝ }
+// The addresses of the pointers of a slot's bins.
+fn slot_addresses(out: &mut [i16; 256], fscod: u8, st: AllocState, exps: &[[i16; 256]; 7], p: Part)
+    requires { ⌜ (length (now out) ≡ 256) × (fscod < 3) × SoundAlloc st × SoundExps (now exps) × SoundPart p ⌝ }
+    ensures { λ _. ⌜ pointersAt (now (out .exit)) (p .start) (p .end) ≡ grammar.pointers fscod st (now (exps .entry)) p ⌝ }
+    ensures { λ _. ⌜ Addresses (now (out .exit)) (p .start) (p .end) ⌝ }
 {
     let slot = p.slot;
     let at = slot as usize;
@@ -224,7 +231,8 @@ fn slot_pointers(fscod: u8, st: AllocState, exps: &[[i16; 256]; 7], p: Part) -> 
     let offsets = st.offsets;
     let deltas = deltas_of(st, slot);
     let segments = deltas.segments;
-    alloc::allocate(
+    alloc::addresses_of(
+        &mut *out,
         &exps[at],
         p.start,
         p.end,
@@ -236,80 +244,55 @@ fn slot_pointers(fscod: u8, st: AllocState, exps: &[[i16; 256]; 7], p: Part) -> 
         tables::floor(curve.floorcod),
         &segments,
         deltas.count,
-    )
+    );
 }
 
-fn no_pointers() -> [u8; 256]
-    ensures { λ r. ⌜ r ≡ replicate 256 0 ⌝ }
+// At address 0 stands pointer 0.
+fn no_addresses() -> [i16; 256]
+    ensures { λ r. ⌜ r ≡ replicate 256 (pos 0) ⌝ }
 {
-    [0u8; 256]
+    [0i16; 256]
 }
 
-// The same, or 0 where every pointer is.
-fn part_pointers(
+// The same, or those of pointer 0 where every pointer is.
+fn part_addresses(
     fscod: u8,
     st: AllocState,
     exps: &[[i16; 256]; 7],
     quiet: bool,
     p: Part,
-) -> [u8; 256]
+) -> [i16; 256]
     requires { ⌜ (fscod < 3) × SoundAlloc st × SoundExps (now exps) × SoundPart p ⌝ }
-    ensures { λ r. ⌜ between 0 r (p .start) (p .end) ≡ partPointers fscod st (now (exps .entry)) quiet p ⌝ }
-    ensures { λ r. ⌜ Entries r 16 ⌝ }
+    ensures { λ r. ⌜ pointersAt r (p .start) (p .end) ≡ partPointers fscod st (now (exps .entry)) quiet p ⌝ }
+    ensures { λ r. ⌜ Addresses r (p .start) (p .end) ⌝ }
 {
+    let mut addresses = no_addresses();
     if quiet {
-        return no_pointers();
+        return addresses;
     }
-    slot_pointers(fscod, st, exps, p)
+    slot_addresses(&mut addresses, fscod, st, exps, p);
+    addresses
 }
 
 // ---- 6.3.5: mantissas, counted
 
-// Three counts in one number with the bits, 16 bits for each: so a mantissa takes one addition.
-const ONE: u64 = 1 << 16;
-
-const TWO: u64 = 1 << 32;
-
-const FOUR: u64 = 1 << 48;
-
-fn is_pointer(which: u8, bap: u8) -> u64
-    ensures { λ r. ⌜ (r ≡ isPointer which bap) × (r ≤ 1) ⌝ }
+// The mantissa at each address. A loop keeps them in a local: a constant array is made anew wherever it is looked into.
+fn weights() -> [u64; 64]
+    ensures { λ r. ⌜ ((address : ℕ) → getD r address 0 ≡ packed (counted noCounts (getD bap address 0))) ⌝ }
 {
-    if bap == which { 1 } else { 0 }
-}
-
-// One mantissa.
-fn weight(bap: u8) -> u64
-    requires { ⌜ bap < 16 ⌝ }
-    ensures { λ r. ⌜ r ≡ packed (counted noCounts bap) ⌝ }
-{
-    tables::bap_bits(bap) as u64
-        + ONE * is_pointer(1, bap)
-        + TWO * is_pointer(2, bap)
-        + FOUR * is_pointer(4, bap)
-}
-
-// That of each pointer. A loop keeps them in a local: a constant array is made anew wherever it is looked into.
-fn weights() -> [u64; 16]
-    ensures { λ r. ⌜ ((bap : ℕ) → bap < 16 → getD r bap 0 ≡ packed (counted noCounts bap)) ⌝ }
-{
-    let mut weights = [0u64; 16];
-    for bap in 0..16u8 {
-        weights[bap as usize] = weight(bap);
-    }
-    weights
+    BY_ADDRESS
 }
 
 // The mantissas of some bins.
-fn count_bins(baps: &[u8; 256], start: usize, end: usize) -> Counts
-    requires { ⌜ (end ≤ 253) × Entries (now baps) 16 ⌝ }
-    ensures { λ r. ⌜ r ≡ countedAll noCounts (between 0 (now (baps .entry)) start end) ⌝ }
+fn count_bins(addresses: &[i16; 256], start: usize, end: usize) -> Counts
+    requires { ⌜ (end ≤ 253) × Addresses (now addresses) start end ⌝ }
+    ensures { λ r. ⌜ r ≡ countedAll noCounts (pointersAt (now (addresses .entry)) start end) ⌝ }
 {
     let weights = weights();
     let mut total = 0u64;
     for bin in start..end {
-        let bap = baps[bin] as usize;
-        total += weights[bap];
+        let address = addresses[bin] as usize;
+        total += weights[address];
     }
     Counts {
         bits: (total % ONE) as u32,
@@ -348,18 +331,183 @@ fn width_of(n: Counts) -> u32
     n.bits + 5 * ((n.ones + 2) / 3) + 7 * ((n.twos + 2) / 3) + 7 * ((n.fours + 1) / 2)
 }
 
+// ---- mantissas counted before: kept while nothing that they depend on has changed
+
+// What the pointers of a slot without delta segments go by, besides its exponents; and then what was counted.
+fn memo(st: AllocState, p: Part, n: Counts) -> [u32; 16]
+    requires { ⌜ SoundPart p × SoundAlloc st ⌝ }
+    ensures { λ r. ⌜ r ≡ memoOf st p n ⌝ }
+{
+    let at = p.slot as usize;
+    let curve = st.curve;
+    let offsets = st.offsets;
+    let leak = st.leak;
+    [
+        p.start as u32,
+        p.end as u32,
+        curve.sdcycod as u32,
+        curve.fdcycod as u32,
+        curve.sgaincod as u32,
+        curve.dbpbcod as u32,
+        curve.floorcod as u32,
+        offsets.csnroffst as u32,
+        offsets.fsnroffst[at] as u32,
+        offsets.fgaincod[at] as u32,
+        leak.cplfleak as u32,
+        leak.cplsleak as u32,
+        n.bits,
+        n.ones,
+        n.twos,
+        n.fours,
+    ]
+}
+
+// Whether what was kept was counted from the same.
+fn same_basis(kept: &[u32; 16], memo: &[u32; 16]) -> bool
+    ensures { λ r. ⌜ (r ≡ true → SameBasis (now (kept .entry)) (now (memo .entry))) ⌝ }
+{
+    for i in 0..12 {
+        if kept[i] != memo[i] {
+            return false;
+        }
+    }
+    true
+}
+
+// Whether two exponents are not the same.
+fn is_other(a: i16, b: i16) -> bool
+    ensures { λ r. ⌜ (r ≡ false → a ≡ b) ⌝ }
+{
+    if a == b {
+        return false;
+    }
+    true
+}
+
+// Whether two rows of exponents are the same; every entry is looked at, so that many are compared at once.
+fn same_row(a: &[i16; 256], b: &[i16; 256]) -> bool
+    ensures { λ r. ⌜ (r ≡ true → SameRow (now (a .entry)) (now (b .entry))) ⌝ }
+{
+    let mut others = 0u16;
+    for i in 0..256 {
+        if is_other(a[i], b[i]) {
+            others += 1;
+        }
+    }
+    others == 0
+}
+
+fn keep_row(to: &mut [i16; 256], row: [i16; 256])
+    ensures { λ _. ⌜ now (to .exit) ≡ row ⌝ }
+{
+    *to = row;
+}
+
+fn keep_memo(to: &mut [u32; 16], memo: [u32; 16])
+    ensures { λ _. ⌜ now (to .exit) ≡ memo ⌝ }
+{
+    *to = memo;
+}
+
+fn counts_in(kept: &[u32; 16]) -> Counts
+    ensures { λ r. ⌜ r ≡ countsIn (now (kept .entry)) ⌝ }
+{
+    Counts {
+        bits: kept[12],
+        ones: kept[13],
+        twos: kept[14],
+        fours: kept[15],
+    }
+}
+
+// The mantissas of a slot, counted.
+fn count_slot(fscod: u8, st: AllocState, exps: &[[i16; 256]; 7], p: Part) -> Counts
+    requires { ⌜ (fscod < 3) × SoundAlloc st × SoundExps (now exps) × SoundPart p ⌝ }
+    ensures { λ r. ⌜ r ≡ countedAll noCounts (grammar.pointers fscod st (now (exps .entry)) p) ⌝ }
+    ensures { λ r. ⌜ AtMost 253 r ⌝ }
+{
+    let mut addresses = no_addresses();
+    slot_addresses(&mut addresses, fscod, st, exps, p);
+    count_bins(&addresses, p.start, p.end)
+}
+
+// The same, counted only where what was kept was counted from something else.
+fn counts_of(
+    fscod: u8,
+    st: AllocState,
+    exps: &[[i16; 256]; 7],
+    memos: &mut [[u32; 16]; 7],
+    origins: &mut [[i16; 256]; 7],
+    p: Part,
+) -> Counts
+    requires { ⌜ (fscod < 3) × SoundAlloc st × SoundExps (now exps) × SoundPart p ⌝ }
+    requires { ⌜ Kept fscod (now memos) (now origins) ⌝ }
+    ensures { λ r. ⌜ r ≡ countedAll noCounts (grammar.pointers fscod st (now (exps .entry)) p) ⌝ }
+    ensures { λ r. ⌜ AtMost 253 r ⌝ }
+    ensures { λ _. ⌜ Kept fscod (now (memos .exit)) (now (origins .exit)) ⌝ }
+{
+    let slot = p.slot;
+    let deltas = deltas_of(st, slot);
+    if deltas.count != 0 {
+        return count_slot(fscod, st, exps, p);
+    }
+    let at = slot as usize;
+    let basis = memo(st, p, NO_COUNTS);
+    if same_basis(&memos[at], &basis) {
+        if same_row(&origins[at], &exps[at]) {
+            return counts_in(&memos[at]);
+        }
+    }
+    let counts = count_slot(fscod, st, exps, p);
+    keep_row(&mut origins[at], exps[at]);
+    keep_memo(&mut memos[at], memo(st, p, counts));
+    counts
+}
+
+// The mantissas of a slot in use: 0 where every pointer is.
+fn part_counts(
+    fscod: u8,
+    st: AllocState,
+    exps: &[[i16; 256]; 7],
+    memos: &mut [[u32; 16]; 7],
+    origins: &mut [[i16; 256]; 7],
+    quiet: bool,
+    p: Part,
+) -> Counts
+    requires { ⌜ (fscod < 3) × SoundAlloc st × SoundExps (now exps) × SoundPart p ⌝ }
+    requires { ⌜ Kept fscod (now memos) (now origins) ⌝ }
+    ensures { λ r. ⌜ r ≡ countedAll noCounts (partPointers fscod st (now (exps .entry)) quiet p) ⌝ }
+    ensures { λ r. ⌜ AtMost 253 r ⌝ }
+    ensures { λ _. ⌜ Kept fscod (now (memos .exit)) (now (origins .exit)) ⌝ }
+{
+    if quiet {
+        return NO_COUNTS;
+    }
+    counts_of(fscod, st, exps, memos, origins, p)
+}
+
 // The mantissas of all slots in use.
-fn count_parts(fscod: u8, st: AllocState, exps: &[[i16; 256]; 7], quiet: bool, ps: Parts) -> Counts
+fn count_parts(
+    fscod: u8,
+    st: AllocState,
+    exps: &[[i16; 256]; 7],
+    memos: &mut [[u32; 16]; 7],
+    origins: &mut [[i16; 256]; 7],
+    quiet: bool,
+    ps: Parts,
+) -> Counts
     requires { ⌜ (fscod < 3) × SoundAlloc st × SoundExps (now exps) × SoundParts ps ⌝ }
+    requires { ⌜ Kept fscod (now memos) (now origins) ⌝ }
     ensures { λ r. ⌜ r ≡ countedAll noCounts (allPointers fscod st (now (exps .entry)) quiet (listed ps)) ⌝ }
     ensures { λ r. ⌜ AtMost (7 * 253) r ⌝ }
+    ensures { λ _. ⌜ Kept fscod (now (memos .exit)) (now (origins .exit)) ⌝ }
 {
     let mut counts = NO_COUNTS;
     let count = ps.count;
     for i in 0..count {
         let p = ps.list[i];
-        let baps = part_pointers(fscod, st, exps, quiet, p);
-        counts = add(counts, count_bins(&baps, p.start, p.end));
+        let more = part_counts(fscod, st, exps, memos, origins, quiet, p);
+        counts = add(counts, more);
     }
     counts
 }
@@ -372,15 +520,15 @@ struct Walked {
 }
 
 // A mantissa takes as many bits as the total grows by.
-fn walk_bins(c: Cursor, n: Counts, baps: &[u8; 256], start: usize, end: usize) -> Walked
-    requires { ⌜ AtMost (6 * 253) n × ((end ≤ 253) × Entries (now baps) 16) ⌝ }
-    ensures { λ r. ⌜ r .counts ≡ countedAll n (between 0 (now (baps .entry)) start end) ⌝ }
-    ensures { λ r. ⌜ r .cursor ≡ walked (widths (openAfter n) (between 0 (now (baps .entry)) start end)) c ⌝ }
+fn walk_bins(c: Cursor, n: Counts, addresses: &[i16; 256], start: usize, end: usize) -> Walked
+    requires { ⌜ AtMost (6 * 253) n × ((end ≤ 253) × Addresses (now addresses) start end) ⌝ }
+    ensures { λ r. ⌜ r .counts ≡ countedAll n (pointersAt (now (addresses .entry)) start end) ⌝ }
+    ensures { λ r. ⌜ r .cursor ≡ walked (widths (openAfter n) (pointersAt (now (addresses .entry)) start end)) c ⌝ }
 {
     let mut counts = n;
     let mut cursor = c;
     for bin in start..end {
-        let more = add(counts, count_bins(baps, bin, bin + 1));
+        let more = add(counts, count_bins(addresses, bin, bin + 1));
         let width = width_of(more) - width_of(counts);
         cursor = syntax::step(cursor, width as u16);
         counts = more;
@@ -405,8 +553,8 @@ fn walk_parts(
     let count = ps.count;
     for i in 0..count {
         let p = ps.list[i];
-        let baps = part_pointers(fscod, st, exps, quiet, p);
-        let walked = walk_bins(cursor, counts, &baps, p.start, p.end);
+        let addresses = part_addresses(fscod, st, exps, quiet, p);
+        let walked = walk_bins(cursor, counts, &addresses, p.start, p.end);
         counts = walked.counts;
         cursor = walked.cursor;
     }
@@ -419,13 +567,17 @@ fn walk(
     fscod: u8,
     st: AllocState,
     exps: &[[i16; 256]; 7],
+    memos: &mut [[u32; 16]; 7],
+    origins: &mut [[i16; 256]; 7],
     quiet: bool,
     ps: Parts,
 ) -> Cursor
     requires { ⌜ (c .stop ≡ 0) × (fscod < 3) × SoundAlloc st × SoundExps (now exps) × SoundParts ps ⌝ }
+    requires { ⌜ Kept fscod (now memos) (now origins) ⌝ }
     ensures { λ r. ⌜ r ≡ walked (widths noneOpen (allPointers fscod st (now (exps .entry)) quiet (listed ps))) c ⌝ }
+    ensures { λ _. ⌜ Kept fscod (now (memos .exit)) (now (origins .exit)) ⌝ }
 {
-    let counts = count_parts(fscod, st, exps, quiet, ps);
+    let counts = count_parts(fscod, st, exps, memos, origins, quiet, ps);
     let end = c.at as u32 + width_of(counts);
     if end <= c.limit as u32 {
         return Cursor {
@@ -457,11 +609,15 @@ pub fn mantissas(
     ends: [usize; 5],
     st: AllocState,
     exps: &[[i16; 256]; 7],
+    memos: &mut [[u32; 16]; 7],
+    origins: &mut [[i16; 256]; 7],
 ) -> MantissasRead
     requires { ⌜ (fscod < 3) × (nfchans ≤ 5) ⌝ }
     requires { ⌜ SoundCoupling coupling × SoundEnds ends ⌝ }
     requires { ⌜ SoundAlloc st × SoundExps (now exps) ⌝ }
+    requires { ⌜ Kept fscod (now memos) (now origins) ⌝ }
     ensures { λ r. ⌜ ((s : List ℕ) → Reads (grammar.mantissas blk fscod nfchans lfeon coupling ends st (now (exps .entry))) s c (now (rows .entry)) (r .start) (r .cursor) (now (rows .exit))) ⌝ }
+    ensures { λ _. ⌜ Kept fscod (now (memos .exit)) (now (origins .exit)) ⌝ }
 {
     if c.stop != 0 {
         return MantissasRead {
@@ -480,7 +636,7 @@ pub fn mantissas(
         };
     }
     let start = known.at;
-    let walked = walk(known, fscod, st, exps, quiet, ps);
+    let walked = walk(known, fscod, st, exps, memos, origins, quiet, ps);
     let cursor = syntax::close(
         rows,
         walked,

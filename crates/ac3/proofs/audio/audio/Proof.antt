@@ -2,27 +2,28 @@
 use Prim.Native.Nat.{_-_, _≤_}
 use native.Mathlib.Omega.{arith}
 use borrow.Author.Needs.{needs}
-use Rattle.syntax.proofs.Sequence.{Turns, begins, turn, ends, then, finished, stopped, standing}
+use Rattle.syntax.proofs.Sequence.{Turns, begins, turn, ends, leaves, then, finished, stopped, standing}
+use Rattle.blocks.specs.Kept.{Kept}
 use Rattle.blocks.specs.Sound.{SoundExps}
+use Rattle.blocks.proofs.Kept.{kept-none}
 use Rattle.ac3.specs.AudioBlock.{audioBlock}
 use Rattle.ac3.specs.Frame.{unread, audio}
 use Rattle.ac3.specs.Sound.{SoundState}
-use Rattle.ac3.proofs.Going.{leaves}
 use Rattle.ac3.proofs.Start.{sound-state, sound-exps}
 use Rattle.ac3.proofs.audio.audio.Statement.{statement}
 use Rattle.ac3.proofs.audio.audio.Tie as tie
 
 abbrev Inv-loop : tie.InvT-loop
-Inv-loop s rows₀ header exps₀ state₀ tally₀ cursor₀ blk₀ rows exps state tally cursor blk =
+Inv-loop s rows₀ header exps₀ memos₀ origins₀ state₀ tally₀ cursor₀ blk₀ rows exps memos origins state tally cursor blk =
     Turns (audioBlock header) 0 6 unread s cursor₀ rows₀ blk (record { state = state; exps = exps; tally = tally }) cursor rows
-    × SoundState state × SoundExps exps × (tally .coupled ≤ blk)
+    × SoundState state × SoundExps exps × (tally .coupled ≤ blk) × Kept (header .fscod) memos origins
 
 abbrev μ-loop : tie.MeasureT-loop
-μ-loop s rows₀ header exps₀ state₀ tally₀ cursor₀ blk₀ rows exps state tally cursor blk = 6 - blk
+μ-loop s rows₀ header exps₀ memos₀ origins₀ state₀ tally₀ cursor₀ blk₀ rows exps memos origins state tally cursor blk = 6 - blk
 
 starts : tie.Need-loop-holds Inv-loop μ-loop
 starts c =
-    rw (c .before .unsent .ensures, c .uncounted .ensures) (begins, sound-state, sound-exps, omega arith)
+    rw (c .before .unsent .ensures, c .uncounted .ensures) (begins, sound-state, sound-exps, omega arith, kept-none _)
 
 early : tie.Need-returns Inv-loop μ-loop
 unfolding audio
@@ -31,9 +32,9 @@ early c = then _ (leaves (c .before .before .before .loop .inv .0) (c .if1 .take
 again : tie.Need-loop-again Inv-loop μ-loop
 again c =
     let t = c .before .before .before .before in
-    let test = t .before .before .before .before .before in
+    let test = t .before .before .before .before .before .before .before in
     let after = t .audio-block .ensures in
-    (turn (test .before .loop .inv .0) (test .loop-test .taken) (after .0), after .1 .0, after .1 .1 .0, after .1 .1 .1)
+    (turn (test .before .loop .inv .0) (test .loop-test .taken) (after .0), after .1 .0, after .1 .1 .0, after .1 .1 .1 .0, after .1 .1 .1 .1)
 
 reads : tie.Need-returns-2 Inv-loop μ-loop
 unfolding audio
@@ -50,7 +51,10 @@ audio-spec =
     starts
     (λ c. early c .long)  -- same-length
     early
-    (λ c κs. let at = c .before .before .before .before .before .loop in let inv = at .inv in ((c .before .before .before .before .loop-test .taken, inv .3), (c .before .before .before .before .before .before .before .before .before .pre, (inv .1, inv .2))))  -- audio-block-requires
+    (λ c κs.
+    let test = c .before .before .before .before .before .before in
+    let inv = test .before .loop .inv in
+    ((test .loop-test .taken, inv .3), (test .before .before .before .before .before .pre, (inv .1, (inv .2, inv .4)))))  -- audio-block-requires
     (λ c. search needs)  -- add-blk
     (λ c. search needs)  -- loop-less
     again

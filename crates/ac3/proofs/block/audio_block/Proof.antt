@@ -60,7 +60,7 @@ exponents-requires c κs =
     let coupling = coupling-before strategies in
     let channels = channels-before coupling in
     let start = channels .before .before in
-    (channels .nfchans .ensures .1, ((coupling .coupling-strategy .ensures .1 .0, (strategies .exponent-strategies .ensures .1, ends .channel-ends .ensures .1)), start .pre .1 .1 .1))
+    (channels .nfchans .ensures .1, ((coupling .coupling-strategy .ensures .1 .0, (strategies .exponent-strategies .ensures .1, ends .channel-ends .ensures .1)), start .pre .1 .1 .1 .0))
 
 alloc-state-requires : tie.Need-alloc-state-requires
 alloc-state-requires c κs =
@@ -73,18 +73,18 @@ alloc-state-requires c κs =
 
 mantissas-requires : tie.Need-mantissas-requires
 mantissas-requires c κs =
-    let alloc = c .before .before .before .before .before .before .before in
+    let alloc = c .before .before .before .before .before .before .before .before .before in
     let exps = alloc .before .before .before .before in
     let ends = exps .before .before .before .before .before in
     let strategies = strategies-before ends in
     let coupling = coupling-before strategies in
     let channels = channels-before coupling in
     let start = channels .before .before in
-    ((start .pre .1 .0 .fscod, channels .nfchans .ensures .1), ((coupling .coupling-strategy .ensures .1 .0, ends .channel-ends .ensures .1), (alloc .alloc-state .ensures .1, exps .exponents .ensures .1)))
+    ((start .pre .1 .0 .fscod, channels .nfchans .ensures .1), ((coupling .coupling-strategy .ensures .1 .0, ends .channel-ends .ensures .1), ((alloc .alloc-state .ensures .1, exps .exponents .ensures .1), start .pre .1 .1 .1 .1)))
 
 counted-requires : tie.Need-counted-requires
 counted-requires c κs =
-    let alloc = c .before .before .before .before .before .before .before .before .before .before .before .before .before in
+    let alloc = c .before .before .before .before .before .before .before .before .before .before .before .before .before .before .before in
     let ends = ends-before alloc in
     let strategies = strategies-before ends in
     let coupling = coupling-before strategies in
@@ -98,7 +98,7 @@ reads c =
     let t16 = c in
     let t15 = t16 .before in
     let t14 = t15 .before .before .before .before .before in
-    let t13 = t14 .before .before .before .before in
+    let t13 = t14 .before .before .before .before .before .before in
     let t12 = t13 .before .before .before .before in
     let t11 = t12 .before .before .before .before in
     let t10 = t11 .before .before .before .before .before in
@@ -125,7 +125,7 @@ reads c =
           (then _ (t11 .exponents .ensures .0)
           (then _ (t12 .alloc-state .ensures .0)
           (then _ (t13 .skip-field .ensures)
-          (then _ (t14 .mantissas .ensures _)
+          (then _ (t14 .mantissas .ensures .0 _)
           finished)))))))))))))),
       (
         record {
@@ -134,7 +134,7 @@ reads c =
           bandwidths = t9 .bandwidths .ensures .1;
           alloc = t12 .alloc-state .ensures .1;
         },
-        (t11 .exponents .ensures .1, t16 .counted .ensures .1),
+        (t11 .exponents .ensures .1, (t16 .counted .ensures .1, t14 .mantissas .ensures .1)),
       ),
     )
 

@@ -1,47 +1,16 @@
--- `blocks::exponents::groups` meets its contract: the invariant says which groups are left, and that the row is sound. Assumes nothing.
-use Prim.Native.Nat.{_-_, _*_}
+-- `blocks::exponents::groups` meets its contract: both ways read the groups; the quick one where its test holds. Assumes nothing.
 use borrow.Author.Needs.{needs}
-use Rattle.syntax.proofs.Sequence.{Turns, begins, turn, ends}
-use Rattle.blocks.specs.Exponents.{binsEach, group}
-use Rattle.blocks.specs.Sound.{SoundUnpacked}
-use Rattle.blocks.proofs.Bins.{group-fits}
 use Rattle.blocks.proofs.exponents.groups.Statement.{statement}
 use Rattle.blocks.proofs.exponents.groups.Tie as tie
-
-abbrev Inv-loop : tie.InvT-loop
-Inv-loop s rows₀ row₀ item strategy first count last exponent₀ cursor₀ n₀ rows row exponent cursor n =
-    Turns (group item (binsEach strategy) first) 0 count (record { last = exponent₀; row = row₀ }) s cursor₀ rows₀ n (record { last = exponent; row = row }) cursor rows
-    × SoundUnpacked (record { last = exponent; row = row })
-
-abbrev μ-loop : tie.MeasureT-loop
-μ-loop s rows₀ row₀ item strategy first count last exponent₀ cursor₀ n₀ rows row exponent cursor n = count - n
-
-fits : tie.Need-group-requires Inv-loop μ-loop
-fits c κs =
-    let test = c .before .before in
-    let entry = test .before .before .before in
-    let pre = entry .pre in
-    (pre .0, (group-fits _ _ _ (3 * binsEach (entry .args .strategy)) (test .loop-test .taken) (pre .1 .0), test .before .loop .inv .1))
-
-again : tie.Need-loop-again Inv-loop μ-loop
-again c =
-    let g = c .before .before in
-    let test = g .before .before .before in
-    (turn (test .before .loop .inv .0) (test .loop-test .taken) (g .group .ensures .0), g .group .ensures .1)
-
-reads : tie.Need-returns Inv-loop μ-loop
-reads c = let inv = c .before .loop .inv in (ends (inv .0) (c .loop-test .left), inv .1)
 
 pub groups-spec : {M : Type 1} → statement M
 groups-spec =
     tie.close
     (tie.spec
-    Inv-loop
-    μ-loop
-    (λ c. (begins, c .before .pre .1 .1))  -- loop-holds
-    fits
-    (λ c. search needs)  -- add-n
-    (λ c. search needs)  -- loop-less
-    again
-    (λ c. reads c .0 .long)  -- same-length
-    reads)
+    (λ c κs. search needs)  -- all-at-hand-requires
+    (λ c κs. let t = c .before .before .before in let pre = t .before .before .before .pre in (pre .0, (pre .1 .0, (pre .1 .1, t .all-at-hand .ensures (c .before .before .if1 .taken)))))  -- groups-at-hand-requires
+    (λ c. search needs)  -- same-length
+    (λ c. search needs)  -- returns
+    (λ c κs. search needs)  -- groups-in-doubt-requires
+    (λ c. search needs)  -- same-length-2
+    (λ c. search needs))  -- returns-2

@@ -37,7 +37,7 @@ add-channel-spec =
     (tie.spec
     (λ c. search needs)  -- mul-push
     (λ c. search needs)  -- array-read-push
-    (λ c κs. let s = c .before in (omega arith, s .pre .0 .2, record { slot = omega arith; end = omega (arith, s .pre .1 .1 (s .args .ch)) }))  -- push-requires
+    (λ c κs. let s = c .before in (omega arith, s .pre .0 .2, record { slot = omega arith; start = omega arith; end = omega (arith, s .pre .1 .1 (s .args .ch)) }))  -- push-requires
     (λ c. search needs)  -- element-copy-out-if2
     (λ c. search needs)  -- mul-start
     (λ c. search needs)  -- add-start

@@ -19,40 +19,49 @@ judge c = rw (← quiet (c .before .before)) (c .leak-missing .ensures)
 
 refused : tie.Need-returns-2
 unfolding mantissas
-refused c s =
+refused c =
     let j = c .before .before in
-    then _ (judged (j .refuse-if .ensures) (judge (j .before))) (stopped (c .if2 .taken))
+    (λ s. then _ (judged (j .refuse-if .ensures) (judge (j .before))) (stopped (c .if2 .taken)), j .before .before .before .before .before .before .before .pre .1 .1 .1)
 
-walks : (c : tie.After-walk) → let j = c .before .before .before in
+walks : (c : tie.After-walk) → let j = c .before .before .before .before .before in
     let a = j .before .before .before .before .before .before .before .args in
     let ps = parts (a .nfchans) (a .lfeon) (a .coupling) (a .ends) in
     c .walk .result ≡ walked (widths noneOpen (allPointers (a .fscod) (a .st) (a .exps .now) (silent (a .st .offsets) ps) ps)) (j .refuse-if .result)
 walks c =
-    let q = c .before .before .before .before .before .before in
-    rw (← quiet q, ← q .before .parts .ensures .0) (c .walk .ensures)
+    let q = c .before .before .before .before .before .before .before .before in
+    rw (← quiet q, ← q .before .parts .ensures .0) (c .walk .ensures .0)
+
+walk-requires : tie.Need-walk-requires
+walk-requires c κs =
+    let p = c .before .before .before .before .before .before .before .before in
+    let pre = p .before .before .before .pre in
+    ((c .before .before .if2 .left, pre .0 .0, pre .1 .1 .0 .0, pre .1 .1 .0 .1, p .parts .ensures .1), pre .1 .1 .1)
 
 reads : tie.Need-returns-3
 unfolding mantissas
-reads c s =
+reads c =
     let t = c .before in
     let w = t .before .before in
-    let j = w .before .before .before in
-    then _ (judged (j .refuse-if .ensures) (judge (j .before)))
-    (then _ standing
-    (then _ (closes (walks w) (t .close .ensures) (t .close .kept .0))
-    finished))
+    let j = w .before .before .before .before .before in (
+      λ s.
+          then _ (judged (j .refuse-if .ensures) (judge (j .before)))
+          (then _ standing
+          (then _ (closes (walks w) (t .close .ensures) (t .close .kept .0))
+          finished)),
+      w .walk .ensures .1,
+    )
 
 pub mantissas-spec : {M : Type 1} → statement M
 mantissas-spec =
     tie.close
     (tie.spec
-    (λ c s. stopped (c .if1 .taken))  -- returns
+    (λ c. (λ s. stopped (c .if1 .taken), c .before .before .pre .1 .1 .1))  -- returns
     (λ c κs. search needs)  -- parts-requires
     (λ c κs. search needs)  -- is-silent-requires
     (λ c κs. search needs)  -- leak-missing-requires
     (λ c κs. search needs)  -- refuse-if-requires
     refused
-    (λ c κs. search needs)  -- walk-requires
-    (λ c κs. rw (c .before .walk .ensures) (walked-from _ _))  -- close-requires
+    walk-requires
+    (λ c κs. rw (c .before .walk .ensures .0) (walked-from _ _))  -- close-requires
     (λ c. search needs)  -- same-length
     reads)

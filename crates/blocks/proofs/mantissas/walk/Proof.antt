@@ -13,16 +13,16 @@ use Rattle.blocks.proofs.mantissas.walk.Tie as tie
 
 add-end : tie.Need-add-end
 unfolding widthOf
-add-end c = omega (arith, c .width-of .ensures, c .before .before .count-parts .ensures .1)
+add-end c = omega (arith, c .width-of .ensures, c .before .before .count-parts .ensures .1 .0)
 
 fits : tie.Need-returns
 fits c =
     let t2 = c .before .before in
     let t1 = t2 .before .before in
-    let s = t1 .before in
+    let s = t1 .before .before .before in
     let baps = allPointers (s .args .fscod) (s .args .st) (s .args .exps .now) (s .args .quiet) (listed (s .args .ps)) in
     let total : t2 .width-of .result ≡ sum (widths noneOpen baps) = rw (t2 .width-of .ensures, t1 .count-parts .ensures .0) (whole-width baps) in
-    rw (total, walked-fits (widths noneOpen baps) (s .args .c) (s .pre .0) (omega (arith, total, c .if1 .taken)))
+    (rw (total, walked-fits (widths noneOpen baps) (s .args .c) (s .pre .0 .0) (omega (arith, total, c .if1 .taken))), t1 .count-parts .ensures .1 .1)
 
 pub walk-spec : {M : Type 1} → statement M
 walk-spec =
@@ -36,4 +36,4 @@ walk-spec =
     (λ c. search needs)  -- cast-t12
     fits
     (λ c κs. search needs)  -- walk-parts-requires
-    (λ c. search needs))  -- returns-2
+    (λ c. (c .walk-parts .ensures, c .before .before .before .before .before .count-parts .ensures .1 .1)))  -- returns-2

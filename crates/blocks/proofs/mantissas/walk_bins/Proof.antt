@@ -3,31 +3,31 @@
 use mathlib.Core.Path.{_≡_, refl, _∙_}
 use Prim.Native.Nat.{_+_, _-_, _*_, _≤_}
 use native.Mathlib.Omega.{arith}
-use lib.ListN.{getD}
 use borrow.Author.Needs.{needs}
+use Rattle.alloc.specs.Steps.{bapAt}
 use Rattle.syntax.specs.Reads.{walked}
-use Rattle.blocks.specs.Counts.{between, noCounts, counted, countedAll, openAfter, AtMost}
+use Rattle.blocks.specs.Counts.{pointersAt, noCounts, counted, countedAll, openAfter, AtMost}
 use Rattle.blocks.specs.Mantissas.{bitsOf, widths}
-use Rattle.blocks.proofs.Between.{between-none, between-one}
+use Rattle.blocks.proofs.Between.{from-none, from-one}
 use Rattle.blocks.proofs.Counting.{width-grows, open-after, counted-one, bits-small, one-at-most, bins-at-most, no-more, none-counted}
 use Rattle.blocks.proofs.mantissas.walk_bins.Statement.{statement}
 use Rattle.blocks.proofs.mantissas.walk_bins.Tie as tie
 
 abbrev Inv-loop : tie.InvT-loop
-Inv-loop baps start end counts₀ cursor₀ bin₀ counts cursor bin =
-    (countedAll counts (between 0 baps bin end) ≡ countedAll counts₀ (between 0 baps start end))
-    × (walked (widths (openAfter counts) (between 0 baps bin end)) cursor ≡ walked (widths (openAfter counts₀) (between 0 baps start end)) cursor₀)
+Inv-loop addresses start end counts₀ cursor₀ bin₀ counts cursor bin =
+    (countedAll counts (pointersAt addresses bin end) ≡ countedAll counts₀ (pointersAt addresses start end))
+    × (walked (widths (openAfter counts) (pointersAt addresses bin end)) cursor ≡ walked (widths (openAfter counts₀) (pointersAt addresses start end)) cursor₀)
     × AtMost (6 * 253 + (bin - start)) counts × (start ≤ bin)
 
 abbrev μ-loop : tie.MeasureT-loop
-μ-loop baps start end counts₀ cursor₀ bin₀ counts cursor bin = end - bin
+μ-loop addresses start end counts₀ cursor₀ bin₀ counts cursor bin = end - bin
 
 -- what was added is one mantissa
-one : (c : tie.After-add Inv-loop μ-loop) → c .add .result ≡ counted (c .before .before .before .loop .counts) (getD (c .before .before .before .before .args .baps .now) (c .before .before .before .loop .bin) 0)
+one : (c : tie.After-add Inv-loop μ-loop) → c .add .result ≡ counted (c .before .before .before .loop .counts) (bapAt (c .before .before .before .before .args .addresses .now) (c .before .before .before .loop .bin))
 one c =
     let at = c .before .before .before .loop in
     let s = c .before .before .before .before in
-    c .add .ensures ∙ rw (c .before .count-bins .ensures) (counted-one (at .counts) (s .args .baps .now) (at .bin))
+    c .add .ensures ∙ rw (c .before .count-bins .ensures) (counted-one (at .counts) (s .args .addresses .now) (at .bin))
 
 few : (c : tie.After-add Inv-loop μ-loop) → let at = c .before .before .before .loop in AtMost (6 * 253 + (at .bin + 1 - c .before .before .before .before .args .start)) (c .add .result)
 few c =
@@ -37,7 +37,7 @@ few c =
 -- it takes as many bits as the total grows by
 width : (c : tie.After-width-of2 Inv-loop μ-loop) → let a = c .before .before in
     let at = a .before .before .before .loop in
-    c .before .width-of .result ≡ c .width-of2 .result + bitsOf (openAfter (at .counts)) (getD (a .before .before .before .before .args .baps .now) (at .bin) 0)
+    c .before .width-of .result ≡ c .width-of2 .result + bitsOf (openAfter (at .counts)) (bapAt (a .before .before .before .before .args .addresses .now) (at .bin))
 width c =
     let a = c .before .before in
     let at = a .before .before .before .loop in
@@ -51,8 +51,8 @@ again c =
     let test = a .before .before in
     let s = test .before .before in
     let at = test .before .loop in
-    let bap = getD (s .args .baps .now) (at .bin) 0 in
-    let step = between-one 0 (s .args .baps .now) (test .loop-test .taken) in
+    let bap = bapAt (s .args .addresses .now) (at .bin) in
+    let step = from-one (bapAt (s .args .addresses .now)) (test .loop-test .taken) in
     let bits : w .before .width-of .result - w .width-of2 .result ≡ bitsOf (openAfter (at .counts)) bap = omega (arith, width w) in (
       rw (one a) (rw step at (at .inv .0)),
       rw (one a, c .step .ensures, bits, ← open-after (at .counts) bap) (rw step at (at .inv .1)),
@@ -64,7 +64,7 @@ returns : tie.Need-returns Inv-loop μ-loop
 unfolding countedAll walked widths
 returns c =
     let inv = c .before .loop .inv in
-    let none = between-none 0 (c .before .before .args .baps .now) (c .loop-test .left) in
+    let none = from-none (bapAt (c .before .before .args .addresses .now)) (c .loop-test .left) in
     (rw none at (inv .0), rw none at (inv .1))
 
 pub walk-bins-spec : {M : Type 1} → statement M
@@ -75,12 +75,12 @@ walk-bins-spec =
     μ-loop
     (λ c. (refl, refl, no-more (c .pre .0) (omega arith), omega arith))  -- loop-holds
     (λ c. search needs)  -- add-count-bins
-    (λ c κs. (omega arith, c .before .before .pre .1 .1))  -- count-bins-requires
-    (λ c κs. let at = c .before .before .loop in (no-more (at .inv .2) (omega (arith, at .inv .3)), rw (c .count-bins .ensures) (no-more (bins-at-most noCounts (c .before .before .before .args .baps .now) (at .bin) (at .bin + 1) (omega arith) none-counted) (omega arith))))  -- add-requires
+    (λ c κs. (omega arith, λ k from to. c .before .before .pre .1 .1 k (omega arith) (omega arith)))  -- count-bins-requires
+    (λ c κs. let at = c .before .before .loop in (no-more (at .inv .2) (omega (arith, at .inv .3)), rw (c .count-bins .ensures) (no-more (bins-at-most noCounts (c .before .before .before .args .addresses .now) (at .bin) (at .bin + 1) (omega arith) none-counted) (omega arith))))  -- add-requires
     (λ c κs. no-more (few c) (omega arith))  -- width-of-requires
     (λ c κs. no-more (c .before .before .before .before .loop .inv .2) (omega arith))  -- width-of-requires-2
     (λ c. omega (arith, width c))  -- sub-width
-    (λ c. let at = c .before .before .before .before .before .loop in omega (arith, width c, bits-small (openAfter (at .counts)) (getD (c .before .before .before .before .before .before .args .baps .now) (at .bin) 0)))  -- cast-step
+    (λ c. let at = c .before .before .before .before .before .loop in omega (arith, width c, bits-small (openAfter (at .counts)) (bapAt (c .before .before .before .before .before .before .args .addresses .now) (at .bin))))  -- cast-step
     (λ c κs. search needs)  -- step-requires
     (λ c. search needs)  -- add-bin
     (λ c. search needs)  -- loop-less

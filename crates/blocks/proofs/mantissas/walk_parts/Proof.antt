@@ -33,9 +33,9 @@ again c =
     let at = test .before .loop in
     let part = getD (s .args .t6 .list) (at .i) noPart in
     let step = first-part (s .args .fscod) (s .args .st) (s .args .exps .now) (s .args .quiet) (s .args .t6 .list) (test .loop-test .taken) in (
-      rw (w .walk-bins .ensures .0, w .walk-bins .ensures .1, p .part-pointers .ensures .0)
+      rw (w .walk-bins .ensures .0, w .walk-bins .ensures .1, p .part-addresses .ensures .0)
           (sym (walked-append _ _ (at .cursor)) ∙ (rw (step, widths-append (at .counts)) at (at .inv .0))),
-      rw (w .walk-bins .ensures .0) (no-more (bins-at-most (at .counts) (p .part-pointers .result) (part .start) (part .end) (s .pre .3 .each (at .i) .end) (at .inv .1)) (omega arith)),
+      rw (w .walk-bins .ensures .0) (no-more (bins-at-most (at .counts) (p .part-addresses .result) (part .start) (part .end) (s .pre .3 .each (at .i) .end) (at .inv .1)) (omega arith)),
     )
 
 returns : tie.Need-returns Inv-loop μ-loop
@@ -51,10 +51,10 @@ walk-parts-spec =
     (λ c. (refl, none-counted))  -- loop-holds
     (λ c. search needs)  -- mul-p
     (λ c. search needs)  -- element-copy-out-p
-    (λ c κs. let s = c .before .before .before in (s .pre .0, s .pre .1, s .pre .2, s .pre .3 .each (c .before .before .loop .i)))  -- part-pointers-requires
+    (λ c κs. let s = c .before .before .before in (s .pre .0, s .pre .1, s .pre .2, s .pre .3 .each (c .before .before .loop .i)))  -- part-addresses-requires
     (λ c κs.
     let at = c .before .before .before .before in
-    (no-more (at .loop .inv .1) (omega arith), (at .before .pre .3 .each (at .loop .i) .end, c .before .part-pointers .ensures .1)))  -- walk-bins-requires
+    (no-more (at .loop .inv .1) (omega arith), (at .before .pre .3 .each (at .loop .i) .end, c .before .part-addresses .ensures .1)))  -- walk-bins-requires
     (λ c. search needs)  -- add-i
     (λ c. search needs)  -- loop-less
     again

@@ -4,6 +4,7 @@ ghost use mathlib.Core.Path.{_≡_};
 ghost use Prim.Native.Nat.{ℕ, _<_, _≤_, min};
 ghost use lib.IntN.{pos};
 ghost use lib.ListN.{length};
+ghost use Rattle.bits.specs.Bits.{rangeEq};
 ghost use Rattle.ac3.specs.Frame as frame;
 ghost use Rattle.ferrysprig.specs.Numbers.{held, flag, answerNumbers, told};
 
@@ -74,4 +75,12 @@ pub extern "C" fn ferrysprig_parse(
     ensures { λ _. ⌜ (now (answer .exit), now (rows .exit)) ≡ told (frame.answer (now (capture .entry)) place (now (rows .entry))) ⌝ }
 {
     *answer = numbers(ac3::parse(capture, place, rows));
+}
+
+// Whether the n bits of x from bit a on are those of y from bit b on. Where either range ends past its slice they are not.
+#[no_mangle]
+pub extern "C" fn ferrysprig_range_eq(x: &[u8], a: usize, y: &[u8], b: usize, n: usize) -> bool
+    ensures { λ r. ⌜ r ≡ rangeEq (now (x .entry)) a (now (y .entry)) b n ⌝ }
+{
+    bits::range_eq(x, a, y, b, n)
 }

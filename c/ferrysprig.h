@@ -1,0 +1,116 @@
+/* Ferrysprig, the proved parser of AC-3 frames, for C and C++. Link target/staticlib/libferrysprig.a, which `rt staticlib ferrysprig` writes (for
+   x86-64 Linux). docs/FORMAT.md says more of what the numbers mean, docs/NAMES.md lists the names, docs/PROMISES.md says what is proved.
+
+   The functions have no state: no heap, no globals, no files, no signals. Any number of threads may call them at once, each with its own `rows`
+   and `answer`. A call needs some kilobytes of stack. */
+#ifndef FERRYSPRIG_H
+#define FERRYSPRIG_H
+
+#include <stdbool.h>
+#include <stddef.h>
+#include <stdint.h>
+
+#ifdef __cplusplus
+extern "C" {
+#endif
+
+/* The numbers of an answer. From FERRYSPRIG_SUMMARY on they are the summary of an accepted frame, and 0 on a refusal; yes is 1. */
+enum {
+    FERRYSPRIG_REFUSAL = 0,          /* 0: accepted; else 1 to 20, see FERRYSPRIG_MEANINGS */
+    FERRYSPRIG_ROWS = 1,             /* how many rows were written, on a refusal too */
+    FERRYSPRIG_BIT = 2,              /* the first bit not yet read; audio_end if accepted */
+    FERRYSPRIG_SUMMARY = 3,          /* how many rows an accepted frame has: number 1 again */
+    FERRYSPRIG_BYTES = 4,            /* the frame's length: the next frame starts so many bytes on */
+    FERRYSPRIG_AUDIO_END = 5,        /* the first bit after the last block's mantissas: the frame's tail (auxiliary data, crc2) starts here */
+    FERRYSPRIG_BSID = 6,
+    FERRYSPRIG_ACMOD = 7,
+    FERRYSPRIG_LFEON = 8,
+    FERRYSPRIG_FSCOD = 9,
+    FERRYSPRIG_CPL_BLOCKS = 10,      /* how many blocks use coupling */
+    FERRYSPRIG_BLOCK_STARTS = 11,    /* 11 to 16: the bits at which the six blocks start */
+    FERRYSPRIG_MANTISSA_STARTS = 17, /* 17 to 22: the bits at which their mantissas start */
+    FERRYSPRIG_COORDINATES_SENT = 23 /* whether every coupled channel sent coordinates in the first block that uses coupling; yes where none does */
+};
+#define FERRYSPRIG_ANSWER 24
+
+/* The numbers of a row. Row i stands at numbers 8 i to 8 i + 7 of the lent room. */
+enum {
+    FERRYSPRIG_NAME = 0,      /* 1 to 111, docs/NAMES.md */
+    FERRYSPRIG_ROLE = 1,      /* FERRYSPRIG_PLAIN and so on, below */
+    FERRYSPRIG_PROGRAMME = 2, /* 0 or 1 for the five roles that speak of a programme, else -1 */
+    FERRYSPRIG_BLOCK = 3,     /* 0 to 5, or -1 outside the blocks */
+    FERRYSPRIG_INDEX = 4,     /* channel, band or slot, or -1 */
+    FERRYSPRIG_POSITION = 5,  /* the first bit, counted from the frame's first, most significant bit of a byte first */
+    FERRYSPRIG_WIDTH = 6,     /* in bits; at most 16, except for a span, which may have any, 0 included */
+    FERRYSPRIG_VALUE = 7      /* the bits as a number; 0 for a span */
+};
+#define FERRYSPRIG_ROW 8
+
+/* The roles that rows have. (Numbers 3, 4 and 16 to 20 of the original's belong to the frame's tail and to E-AC-3.) */
+enum {
+    FERRYSPRIG_PLAIN = 0,
+    FERRYSPRIG_SYNC = 1,
+    FERRYSPRIG_CRC1 = 2,
+    FERRYSPRIG_FRAME_SIZE = 5,    /* fscod, frmsizecod */
+    FERRYSPRIG_DIALNORM = 6,      /* of a programme, as the next four */
+    FERRYSPRIG_COMPR_EXISTS = 7,
+    FERRYSPRIG_COMPR = 8,
+    FERRYSPRIG_DYNRNG_EXISTS = 9,
+    FERRYSPRIG_DYNRNG = 10,
+    FERRYSPRIG_SKIPLE = 11,
+    FERRYSPRIG_SKIPL = 12,
+    FERRYSPRIG_SKIPFLD = 13,      /* a span */
+    FERRYSPRIG_ADDBSI = 14,       /* a span */
+    FERRYSPRIG_MANTISSAS = 15     /* a span */
+};
+
+/* What each refusal means, by its number: static const char *const meanings[] = FERRYSPRIG_MEANINGS; */
+#define FERRYSPRIG_MEANINGS { \
+    /*  0 */ "accepted", \
+    /*  1 */ "the input has fewer than 6 bytes", \
+    /*  2 */ "the sync word is not 0x0B77", \
+    /*  3 */ "fscod is 3, or frmsizecod is 38 or more", \
+    /*  4 */ "the input is shorter than the frame", \
+    /*  5 */ "bsid is above 8", \
+    /*  6 */ "a field, span or mantissa would end past the frame", \
+    /*  7 */ "no row is left", \
+    /*  8 */ "block 0 has cplstre, rematstr, baie or snroffste 0", \
+    /*  9 */ "cplbegf is above cplendf + 2", \
+    /* 10 */ "coupling with fewer than two channels", \
+    /* 11 */ "chbwcod is above 60", \
+    /* 12 */ "a channel's bandwidth was never sent", \
+    /* 13 */ "coupling exponents are reused, but were never sent or stand for another range", \
+    /* 14 */ "a channel's exponents are reused, but were never sent or have another end", \
+    /* 15 */ "LFE exponents are reused, but were never sent", \
+    /* 16 */ "a grouped exponent is above 124", \
+    /* 17 */ "an exponent is outside 0 to 24 after a step", \
+    /* 18 */ "deltbae is 0 in block 0", \
+    /* 19 */ "deltbae is 3", \
+    /* 20 */ "the coupling leak is needed, but was never sent" \
+}
+
+/* Bytes that no frame exceeds. */
+#define FERRYSPRIG_MOST_BYTES 3840
+
+/* Rows that no frame exceeds: every row takes one of its bits or more, except a skip field and mantissas in each of the six blocks. With room for
+   so many, refusal 7 is not given. Most frames have some hundreds. */
+#define FERRYSPRIG_MOST_ROWS (8 * FERRYSPRIG_MOST_BYTES + 12)
+
+/* Parses the frame at byte `place` of `capture` into the lent `rows`, and writes the answer's numbers.
+
+   Any bytes, any place (past the end: refusal 1) and any room are answered. `rows_len` counts numbers, not rows: the room is rows_len / 8 rows.
+   Numbers past the rows written are not touched, on refusals too. The pointers are to as many elements as their lengths say (a pointer with
+   length 0 is not looked at); `rows` and `answer` overlap nothing. Bytes after the frame are not looked at. The rows of an accepted frame lie end
+   to end from bit 0 to audio_end. */
+void ferrysprig_parse(const uint8_t *capture, size_t capture_len, size_t place, int32_t *rows, size_t rows_len, int32_t answer[FERRYSPRIG_ANSWER]);
+
+/* Whether the n bits of x from bit a on are those of y from bit b on, most significant bit of a byte first. Where either range ends past its bytes, or
+   at a bit that 64 bits cannot count, they are not: the answer is false. A range of no bits ends where it starts, so it equals another if both start at
+   most at the ends. x and y may overlap or be the same. */
+bool ferrysprig_range_eq(const uint8_t *x, size_t x_len, size_t a, const uint8_t *y, size_t y_len, size_t b, size_t n);
+
+#ifdef __cplusplus
+}
+#endif
+
+#endif

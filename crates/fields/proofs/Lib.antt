@@ -1,0 +1,6 @@
+pub mod Element
+pub mod Filled
+pub mod Inverse
+pub mod LocalRun
+pub mod Parsed
+pub mod Passed

@@ -1,0 +1,75 @@
+-- A frame's rows in a room of zeros, offered over a run, are the definition's records: no more rows are written than there is room for, so
+-- all of them are offered. Assumes nothing.
+use mathlib.Core.List.{List, [], _∷_, _++_, map}
+use mathlib.Core.Path.{_≡_, refl, sym, ap, subst, _∙_}
+use Prim.Native.Nat.{ℕ, zero, suc, _*_, _/_, _≤_, min}
+use native.Mathlib.Omega.{arith}
+use lib.IntN.{ℤ, pos}
+use lib.ListN.{length, take, drop, replicate, length-replicate}
+use Rattle.syntax.specs.Place.{flatten}
+use Rattle.syntax.specs.Run.{start}
+use Rattle.syntax.proofs.Agreement.{rows-fit}
+use Rattle.ac3.specs.Frame.{syncframe, answer}
+use Rattle.ac3.specs.Promise.{Call, input, roomFor, listed, answerTo}
+use Rattle.ac3.specs.declared.Answer.{Answer}
+use Rattle.ac3.proofs.Promise.{promised}
+use Rattle.fields.specs.Fields.{fieldAt, recordOf, filled, fitting, offered, answerWithin, capacity, callFor, parsed}
+use Rattle.fields.specs.declared.Field.{Field}
+use Rattle.fields.proofs.Filled.{filled-front}
+
+take-replicate : (k n : ℕ) (z : ℤ) → k ≤ n → take k (replicate n z) ≡ replicate k z
+take-replicate zero n z h = refl
+take-replicate (suc k) zero z h = absurd (omega (arith, h))
+take-replicate (suc k) (suc n) z h = ap (λ (l : List ℤ). z ∷ l) (take-replicate k n z (omega (arith, h)))
+
+append-assoc : {A : Type 0} (a b c : List A) → (a ++ b) ++ c ≡ a ++ (b ++ c)
+append-assoc [] b c = refl
+append-assoc (x ∷ a) b c = ap (λ l. x ∷ l) (append-assoc a b c)
+
+-- the definition's list has no more rows than there is room for
+listed-fits : (c : Call) → length (listed c) ≤ roomFor c
+listed-fits c = rows-fit (input c) syncframe (start (length (input c)) (roomFor c))
+
+module _ (capture : List ℕ) (place : ℕ) (run : List Field) (rows after : List ℤ) (zeros : rows ≡ replicate 32768 (pos 0)) (same-length : length after ≡ length rows) where
+  abbrev c : Call
+  c = callFor capture place (length run)
+
+  -- the rows that may be used
+  abbrev n : ℕ
+  n = min (length run) (length rows / 8)
+
+  long : length rows ≡ 32768
+  long = ap length zeros ∙ length-replicate 32768 (pos 0)
+
+  n-is : n ≡ min (length run) capacity
+  n-is = omega (arith, long)
+
+  front : take (n * 8) rows ≡ c .room
+  front =
+      ap (take (n * 8)) zeros
+      ∙ take-replicate (n * 8) 32768 (pos 0) (omega (arith, n-is))
+      ∙ ap (λ (k : ℕ). replicate (k * 8) (pos 0)) n-is
+
+  few : length (listed c) ≤ min (length run) capacity
+  few = omega (arith, listed-fits c, length-replicate (min (length run) capacity * 8) (pos 0))
+
+  -- what stands in the room behind the rows
+  abbrev behind : List ℤ
+  behind = drop (length (listed c) * 8) (c .room) ++ drop (n * 8) rows
+
+  pub parsed-is : {a : Answer} {m : ℕ} {fields : List Field}
+      → (a, after) ≡ answerWithin n capture place rows → (m, fields) ≡ offered after (a .rows) run → (a, fields) ≡ parsed capture place run
+  parsed-is {a} {m} {fields} said told =
+      let there = said ∙ ap (λ (room : List ℤ). let t = answer capture place room in (t .0, t .1 ++ drop (n * 8) rows)) front in
+      let kept = promised c {a = answerTo c .0} {after = answerTo c .1} refl in
+      let same : a ≡ answerTo c .0 = ap (λ x. x .0) there in
+      let count : a .rows ≡ length (listed c) = ap (λ x. x .rows) same ∙ kept .counted in
+      let room : after ≡ flatten (listed c) ++ behind =
+      ap (λ x. x .1) there ∙ ap (λ (l : List ℤ). l ++ drop (n * 8) rows) (kept .written) ∙ append-assoc (flatten (listed c)) _ _ in
+      let all : fitting (length after) (a .rows) (length run) ≡ length (listed c) = omega (arith, count, same-length, long, few) in
+      let offers : fields ≡ map recordOf (listed c) ++ drop (length (listed c)) run =
+      ap (λ x. x .1) told
+      ∙ ap (λ (k : ℕ). filled (fieldAt after) k run) all
+      ∙ ap (λ (l : List ℤ). filled (fieldAt l) (length (listed c)) run) room
+      ∙ filled-front (listed c) behind run (omega (arith, few)) in
+      λ j. (same j, offers j)

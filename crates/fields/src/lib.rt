@@ -1,0 +1,175 @@
+// The rows of a frame as records: a `Field` holds its `Role`, with the programme that the role speaks of, and the row's other six
+// numbers. Functions with a run of records are proved by hand and are thin; the work on numbers is in functions that take and return a
+// record by value.
+use ac3::Answer;
+use syntax::NONE;
+use syntax::Role;
+ghost use mathlib.Core.Path.{_≡_};
+ghost use Prim.Native.Nat.{_≤_, _+_, _*_, min, _/_};
+ghost use lib.ListN.{length, replicate};
+ghost use lib.IntN.{pos};
+ghost use Rattle.fields.specs.Fields.{programmeOf, roleOf, fieldOf, rowOf, fieldAt, filled, fitting, offered, answerWithin, parsed};
+
+// -1 stands for "none" in block and index.
+pub struct Field {
+    pub name: i32,
+    pub role: Role,
+    pub block: i32,
+    pub index: i32,
+    pub position: i32,
+    pub width: i32,
+    pub value: i32,
+}
+
+// The programme of a row as a role holds it.
+fn programme_of(n: i32) -> u8
+    ensures { λ r. ⌜ r ≡ programmeOf n ⌝ }
+{
+    if n < 0 {
+        return NONE;
+    }
+    signed::clamp(n, 255) as u8
+}
+
+// The role of a number, for programme p; a number that is no role's is Plain's.
+fn role_of(n: usize, p: u8) -> Role
+    ensures { λ r. ⌜ r ≡ roleOf n p ⌝ }
+{
+    let roles = [
+        Role::Plain,
+        Role::Sync,
+        Role::Crc1,
+        Role::Crc2,
+        Role::CrcRsv,
+        Role::FrameSize,
+        Role::Dialnorm(p),
+        Role::ComprExists(p),
+        Role::Compr(p),
+        Role::DynrngExists(p),
+        Role::Dynrng(p),
+        Role::Skiple,
+        Role::Skipl,
+        Role::Skipfld,
+        Role::Addbsi,
+        Role::Mantissas,
+        Role::AuxBits,
+        Role::AuxDataL,
+        Role::AuxDataE,
+        Role::BlkStrtInfoE,
+        Role::BlkStrtInfo,
+    ];
+    if n < roles.len() {
+        roles[n]
+    } else {
+        Role::Plain
+    }
+}
+
+// The record of a row.
+pub fn field_of(row: [i32; 8]) -> Field
+    ensures { λ r. ⌜ r ≡ fieldOf row ⌝ }
+{
+    let programme = programme_of(row[2]);
+    let role = role_of(signed::clamp(row[1], 21), programme);
+    Field {
+        name: row[0],
+        role,
+        block: row[3],
+        index: row[4],
+        position: row[5],
+        width: row[6],
+        value: row[7],
+    }
+}
+
+// The row of a record.
+pub fn row_of(field: Field) -> [i32; 8]
+    ensures { λ r. ⌜ r ≡ rowOf field ⌝ }
+{
+    let role = field.role;
+    let numbers = syntax::role_numbers(role);
+    [
+        field.name,
+        numbers.0 as i32,
+        syntax::shown(numbers.1),
+        field.block,
+        field.index,
+        field.position,
+        field.width,
+        field.value,
+    ]
+}
+
+// Row i of a run of rows, as a record.
+fn field_at(rows: &[i32], i: usize) -> Field
+    requires { ⌜ i * 8 + 8 ≤ length (now rows) ⌝ }
+    ensures { λ r. ⌜ r ≡ fieldAt (now (rows .entry)) i ⌝ }
+{
+    let at = i * 8;
+    field_of([
+        rows[at],
+        rows[at + 1],
+        rows[at + 2],
+        rows[at + 3],
+        rows[at + 4],
+        rows[at + 5],
+        rows[at + 6],
+        rows[at + 7],
+    ])
+}
+
+fn fitting(numbers: usize, count: usize, room: usize) -> usize
+    ensures { λ r. ⌜ r ≡ fitting numbers count room ⌝ }
+{
+    signed::least(signed::least(count, numbers / 8), room)
+}
+
+// Room for 4,096 rows. (Whoever calls it knows the array by what it ensures, and need not compute with it.)
+fn no_rows() -> [i32; 32768]
+    ensures { λ r. ⌜ r ≡ replicate 32768 (pos 0) ⌝ }
+{
+    [0i32; 32768]
+}
+
+// The frame that starts at a place of a capture, with room for at most n rows of those that are lent.
+fn parse_within(n: usize, capture: &[u8], place: usize, rows: &mut [i32]) -> Answer
+    ensures { λ r. ⌜ (r, now (rows .exit)) ≡ answerWithin (min n (length (now (rows .entry)) / 8)) (now (capture .entry)) place (now (rows .entry)) ⌝ }
+{
+    let room = signed::least(n, rows.len() / 8);
+    ac3::parse(capture, place, &mut rows[..room * 8])
+}
+
+// ---- by hand: functions with a run of records
+
+// The first rows, as records, in front of the run.
+fn fill(rows: &[i32], count: usize, fields: &mut [Field])
+    requires { ⌜ (count * 8 ≤ length (now rows)) × (count ≤ length (now fields)) ⌝ }
+    ensures { λ _. ⌜ now (fields .exit) ≡ filled (fieldAt (now (rows .entry))) count (now (fields .entry)) ⌝ }
+{
+    let mut i = 0;
+    while i < count {
+        fields[i] = field_at(rows, i);
+        i += 1;
+    }
+}
+
+// As many of the first `count` rows as there are and as the run has room for. Answers how many.
+pub fn offer(rows: &[i32], count: usize, fields: &mut [Field]) -> usize
+    ensures { λ r. ⌜ (r, now (fields .exit)) ≡ offered (now (rows .entry)) count (now (fields .entry)) ⌝ }
+{
+    let n = fitting(rows.len(), count, fields.len());
+    fill(rows, n, fields);
+    n
+}
+
+// The frame that starts at a place of a capture: its rows are offered over the run. A run of n records counts as room for n rows, up to
+// 4,096.
+pub fn parse_fields(capture: &[u8], place: usize, fields: &mut [Field]) -> Answer
+    ensures { λ r. ⌜ (r, now (fields .exit)) ≡ parsed (now (capture .entry)) place (now (fields .entry)) ⌝ }
+{
+    let mut rows = no_rows();
+    let answer = parse_within(fields.len(), capture, place, &mut rows);
+    let count = answer.rows;
+    offer(&rows, count, fields);
+    answer
+}

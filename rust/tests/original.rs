@@ -1,0 +1,145 @@
+//! Beside the original Rust, on an encoder's frames: the same fields and the same summary; and its own `read_tail` goes on from `audio_end`.
+
+#![allow(dead_code)]
+
+#[rustfmt::skip]
+#[path = "../../judge/ddpmeta/ac3.rs"]
+mod ac3;
+#[rustfmt::skip]
+#[path = "../../judge/ddpmeta/alloc.rs"]
+mod alloc;
+#[rustfmt::skip]
+#[path = "../../judge/ddpmeta/bitalloc_tables.rs"]
+mod bitalloc_tables;
+#[rustfmt::skip]
+#[path = "../../judge/ddpmeta/bits.rs"]
+mod bits;
+#[rustfmt::skip]
+#[path = "../../judge/ddpmeta/blocks.rs"]
+mod blocks;
+#[rustfmt::skip]
+#[path = "../../judge/ddpmeta/crc.rs"]
+mod crc;
+#[rustfmt::skip]
+#[path = "../../judge/ddpmeta/error.rs"]
+mod error;
+#[rustfmt::skip]
+#[path = "../../judge/ddpmeta/frame.rs"]
+mod frame;
+#[rustfmt::skip]
+#[path = "../../judge/ddpmeta/syntax.rs"]
+mod syntax;
+#[rustfmt::skip]
+#[path = "../../judge/ddpmeta/tables.rs"]
+mod tables;
+
+mod files;
+
+use ferrysprig::Role;
+
+/// A role of the crate's as the original's.
+fn role(role: Role) -> syntax::Role {
+    match role {
+        Role::Plain => syntax::Role::Plain,
+        Role::Sync => syntax::Role::Sync,
+        Role::Crc1 => syntax::Role::Crc1,
+        Role::Crc2 => syntax::Role::Crc2,
+        Role::CrcRsv => syntax::Role::CrcRsv,
+        Role::FrameSize => syntax::Role::FrameSize,
+        Role::Dialnorm(p) => syntax::Role::Dialnorm(p),
+        Role::ComprExists(p) => syntax::Role::ComprExists(p),
+        Role::Compr(p) => syntax::Role::Compr(p),
+        Role::DynrngExists(p) => syntax::Role::DynrngExists(p),
+        Role::Dynrng(p) => syntax::Role::Dynrng(p),
+        Role::Skiple => syntax::Role::Skiple,
+        Role::Skipl => syntax::Role::Skipl,
+        Role::Skipfld => syntax::Role::Skipfld,
+        Role::Addbsi => syntax::Role::Addbsi,
+        Role::Mantissas => syntax::Role::Mantissas,
+        Role::AuxBits => syntax::Role::AuxBits,
+        Role::AuxDataL => syntax::Role::AuxDataL,
+        Role::AuxDataE => syntax::Role::AuxDataE,
+        Role::BlkStrtInfoE => syntax::Role::BlkStrtInfoE,
+        Role::BlkStrtInfo => syntax::Role::BlkStrtInfo,
+    }
+}
+
+fn field(f: &ferrysprig::Field) -> syntax::Field {
+    syntax::Field {
+        name: f.name,
+        role: role(f.role),
+        block: f.block,
+        index: f.index,
+        pos: f.pos,
+        width: f.width,
+        value: f.value,
+    }
+}
+
+#[test]
+fn fields_and_summary_are_the_originals_and_its_tail_goes_on() {
+    let mut accepted = 0;
+    for (name, stream) in files::frames() {
+        let mut place = 0;
+        while place < stream.len() {
+            let data = &stream[place..];
+            let Ok(frame) = ferrysprig::parse_at(&stream, place) else {
+                assert!(
+                    ac3::parse(data).is_err(),
+                    "{name}: only the original accepts byte {place}"
+                );
+                break;
+            };
+            let summary = &frame.summary;
+            let mut cur = syntax::Cursor {
+                data,
+                pos: summary.audio_end,
+                limit: frame.total_bits(),
+                fields: frame.fields.iter().map(field).collect(),
+                block: -1,
+            };
+            frame::read_tail(&mut cur, frame.total_bits(), frame::Codec::Ac3).unwrap();
+            let original = ac3::parse(data).unwrap();
+            assert_eq!(cur.fields, original.fields, "{name}, byte {place}");
+            assert_eq!(summary.bytes, original.bytes);
+            assert_eq!(summary.audio_end, original.audio_end);
+            assert_eq!(summary.bsid, original.bsid);
+            assert_eq!(summary.acmod, original.acmod);
+            assert_eq!(summary.lfeon, original.lfeon);
+            assert_eq!(summary.fscod, original.fscod);
+            assert_eq!(summary.cpl_blocks, original.cpl_blocks);
+            assert_eq!(summary.block_starts[..], original.block_starts[..]);
+            assert_eq!(summary.mantissa_starts[..], original.mantissa_starts[..]);
+            accepted += 1;
+            place += summary.bytes;
+        }
+    }
+    assert!(accepted > 200, "{accepted} frames");
+}
+
+#[test]
+fn roles_say_of_themselves_what_the_originals_do() {
+    let programmes = [0, 1].into_iter().flat_map(|p| {
+        [
+            Role::Dialnorm(p),
+            Role::ComprExists(p),
+            Role::Compr(p),
+            Role::DynrngExists(p),
+            Role::Dynrng(p),
+        ]
+    });
+    #[rustfmt::skip]
+    let others = [
+        Role::Plain, Role::Sync, Role::Crc1, Role::Crc2, Role::CrcRsv, Role::FrameSize, Role::Skiple, Role::Skipl, Role::Skipfld,
+        Role::Addbsi, Role::Mantissas, Role::AuxBits, Role::AuxDataL, Role::AuxDataE, Role::BlkStrtInfoE, Role::BlkStrtInfo,
+    ];
+    for ours in programmes.chain(others) {
+        let theirs = role(ours);
+        assert_eq!(format!("{ours:?}"), format!("{theirs:?}"));
+        assert_eq!(
+            (ours.is_drc(), ours.is_checksum(), ours.is_span()),
+            (theirs.is_drc(), theirs.is_checksum(), theirs.is_span()),
+            "{ours:?}"
+        );
+    }
+}

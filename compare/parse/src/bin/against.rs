@@ -1,29 +1,35 @@
-//! against SEED SIZE [LEAST]: runs the generator from SEED on, seed after seed until at least LEAST inputs were made (default: one seed),
-//! and holds the port's answer and every number of its room against the judge's. Prints what was compared; status 1 on a difference.
+//! against SEED SIZE [LEAST]: runs the generator from SEED on and holds the port's answer and every number of its room against the judge's.
+//! With LEAST the frames are swept as well (truncated at every byte, at every place of a longer capture, in every room), seed after seed
+//! until there were that many inputs. Prints what was compared; status 1 on a difference, or where an input to be compared by name was not.
 
 use compare_parse::parse;
 use judge::agree::fresh_room;
 use judge::cases::{Amounts, Case, Generator};
+use judge::cut::MANY_ROWS;
+use judge::goals::by_name;
 use judge::hex;
+use judge::names::ROW;
 
 fn main() {
     let args: Vec<usize> = std::env::args()
         .skip(1)
         .map(|a| a.parse().expect("SEED, SIZE and LEAST are numbers"))
         .collect();
-    let (seed, size, least) = match args[..] {
-        [seed, size] => (seed, size, 0),
-        [seed, size, least] => (seed, size, least),
+    let (seed, amounts, least) = match args[..] {
+        [seed, size] => (seed, Amounts::of_size(size), 0),
+        [seed, size, least] => (seed, Amounts::swept(size), least),
         _ => {
             eprintln!("usage: against SEED SIZE [LEAST]");
             std::process::exit(2);
         }
     };
-    let (mut inputs, mut differences, mut refused, mut numbers) = (0, 0, [0usize; 21], 0usize);
+    let (mut differences, mut refused, mut numbers) = (0, [0usize; 21], 0usize);
+    let fresh = fresh_room(ROW * (MANY_ROWS + 1));
+    let mut room = Vec::with_capacity(fresh.len());
     let mut compare = |case: &Case<'_>| {
-        let mut room = fresh_room(case.call.room.len());
+        room.clear();
+        room.extend_from_slice(&fresh[..case.call.room.len()]);
         let answer = parse(case.input, case.place, &mut room);
-        inputs += 1;
         numbers += room.len();
         refused[case.call.answer.number() as usize] += 1;
         if answer != case.call.answer.numbers() || room != case.call.room {
@@ -34,24 +40,42 @@ fn main() {
                 println!("  judge {:?}", case.call.answer.numbers());
                 println!("  port  {answer:?}");
                 if let Some(at) = (0..room.len()).find(|&i| room[i] != case.call.room[i]) {
-                    println!("  number {at}: judge {}, port {}", case.call.room[at], room[at]);
+                    println!(
+                        "  number {at}: judge {}, port {}",
+                        case.call.room[at], room[at]
+                    );
                 }
             }
         }
     };
-    let mut made = 0;
-    let mut seeds = 0;
+    let (mut inputs, mut seeds, mut swept, mut named) = (0, 0, [0; 3], [0; 5]);
     loop {
         let mut generator = Generator::new((seed + seeds) as u64, &mut compare);
-        generator.run(Amounts::of_size(size));
-        made += generator.calls;
+        generator.run_and_compared();
+        generator.run(amounts);
+        inputs += generator.calls;
         seeds += 1;
-        if least <= made {
+        for (sum, of_seed) in swept.iter_mut().zip(generator.swept) {
+            *sum += of_seed;
+        }
+        for (times, (_, goal)) in named.iter_mut().zip(by_name()) {
+            *times += generator.counts.of(goal);
+        }
+        if least <= inputs {
             break;
         }
     }
     println!("{inputs} inputs from {seeds} seeds, {numbers} numbers of room compared");
-    println!("accepted {}, refused by number {:?}", refused[0], &refused[1..]);
+    let [truncations, places, rooms] = swept;
+    println!("of them by sweeps {truncations} truncations, {places} places, {rooms} rooms");
+    println!(
+        "accepted {}, refused by number {:?}",
+        refused[0],
+        &refused[1..]
+    );
+    for (times, (name, _)) in named.iter().zip(by_name()) {
+        println!("{name}: {times}");
+    }
     println!("{differences} differences");
-    std::process::exit((differences > 0) as i32);
+    std::process::exit((differences > 0 || named.contains(&0)) as i32);
 }

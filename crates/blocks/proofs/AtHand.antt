@@ -1,7 +1,7 @@
 -- The five ways through a group: refused by its number, by one of its three exponents, or read. Assumes nothing.
 use mathlib.Core.Bool.{Bool, true, false, _||_}
 use mathlib.Core.List.{List}
-use mathlib.Core.Path.{_≡_, sym, subst}
+use mathlib.Core.Path.{_≡_, refl, sym, subst}
 use Prim.Native.Nat.{ℕ, _+_, _-_, _*_, _/_, _%_}
 use native.Mathlib.Omega.{arith}
 use lib.Dec.{ltb}
@@ -65,6 +65,22 @@ module _ {item : Item} {s : List ℕ} {c d : Cursor} {before after : List ℤ} {
         pub all-three : out (b + v % 5) ≡ false → all (record { last = b + v % 5 - 2; row = sets row (first + n * (3 * bins)) (spread bins a b (b + v % 5 - 2)) }) d
         unfolding group
         all-three z = then _ t (then _ (judged-good known .reads s after) (then _ (goes last (v / 25) x) (then _ (goes a (v % 25 / 5) y) (then _ (goes b (v % 5) z) finished))))
+
+    -- one of the three stops it
+    pub no-three : (out (last + v / 25) ≡ false → out (last + v / 25 - 2 + v % 25 / 5) ≡ false → out (last + v / 25 - 2 + v % 25 / 5 - 2 + v % 5) ≡ false → ⊥) → (u : Unpacked) → all u (at-stop d 17)
+    no-three bad u = one (out (last + v / 25)) refl
+      where
+        all-of : (x : out (last + v / 25) ≡ false) (y : out (a x + v % 25 / 5) ≡ false) (t : Bool) → out (b x y + v % 5) ≡ t → all u (at-stop d 17)
+        all-of x y true e = no-third x y e u
+        all-of x y false e = absurd (bad x y e)
+
+        two : (x : out (last + v / 25) ≡ false) (t : Bool) → out (a x + v % 25 / 5) ≡ t → all u (at-stop d 17)
+        two x true e = no-second x e u
+        two x false e = all-of x e (out (b x e + v % 5)) refl
+
+        one : (t : Bool) → out (last + v / 25) ≡ t → all u (at-stop d 17)
+        one true e = no-first e u
+        one false e = two e (out (a e + v % 25 / 5)) refl
 
 -- a cursor that goes on is the one that does not stop
 pub from-going : {A : Type 0} {g : Grammar A} {s : List ℕ} {c d : Cursor} {before after : List ℤ} {a : A} → c .stop ≡ 0 → Reads g s (at-stop c 0) before a d after → Reads g s c before a d after

@@ -12,7 +12,7 @@ use syntax::Item;
 use syntax::Role;
 use syntax::names;
 ghost use mathlib.Core.Path.{_≡_};
-ghost use mathlib.Core.Bool.{true, _||_, cond};
+ghost use mathlib.Core.Bool.{true, false, _||_, cond};
 ghost use Prim.Native.Nat.{ℕ, _+_, _*_, _-_, _/_, _%_, _<_, _≤_};
 ghost use mathlib.Core.List.{List};
 ghost use lib.Dec.{eqb, ltb};
@@ -23,7 +23,7 @@ ghost use Rattle.syntax.specs.Grammar.{for, readIf};
 ghost use Rattle.syntax.specs.Reads.{Reads};
 ghost use Rattle.blocks.specs.Slots as slots;
 ghost use Rattle.blocks.specs.Exponents as grammar;
-ghost use Rattle.blocks.specs.AtHand.{Differences, AtHand};
+ghost use Rattle.blocks.specs.AtHand.{Steps, Unmarked, NearThree, ThreeInside, AtHand};
 ghost use Rattle.blocks.specs.Sound.{SoundRow, SoundUnpacked, SoundExps, Entries, SoundCoupling, SoundStrategies, SoundEnds};
 
 // ---- one set
@@ -142,139 +142,170 @@ fn group(
     }
 }
 
-// The three differences of each group, 4 bits for each: looked up instead of divided.
-const DIFFERENCES: [u16; 125] = [
-    0,
-    256,
-    512,
-    768,
-    1024,
-    16,
-    272,
-    528,
-    784,
-    1040,
-    32,
-    288,
-    544,
-    800,
-    1056,
-    48,
-    304,
-    560,
-    816,
-    1072,
-    64,
-    320,
-    576,
-    832,
-    1088,
-    1,
-    257,
-    513,
-    769,
-    1025,
-    17,
-    273,
-    529,
-    785,
-    1041,
-    33,
-    289,
-    545,
-    801,
-    1057,
-    49,
-    305,
-    561,
-    817,
-    1073,
-    65,
-    321,
-    577,
-    833,
-    1089,
-    2,
-    258,
-    514,
-    770,
-    1026,
-    18,
-    274,
-    530,
-    786,
-    1042,
-    34,
-    290,
-    546,
-    802,
-    1058,
-    50,
-    306,
-    562,
-    818,
-    1074,
-    66,
-    322,
-    578,
-    834,
-    1090,
-    3,
-    259,
-    515,
-    771,
-    1027,
-    19,
-    275,
-    531,
-    787,
-    1043,
-    35,
-    291,
-    547,
-    803,
-    1059,
-    51,
-    307,
-    563,
-    819,
-    1075,
-    67,
-    323,
-    579,
-    835,
-    1091,
-    4,
-    260,
-    516,
-    772,
-    1028,
-    20,
-    276,
-    532,
-    788,
-    1044,
-    36,
-    292,
-    548,
-    804,
-    1060,
-    52,
-    308,
-    564,
-    820,
-    1076,
-    68,
-    324,
-    580,
-    836,
-    1092,
+// The same number in each of three bytes.
+const EACH: u32 = 0x010101;
+
+// What a group adds to the exponent before it, a byte for each of its three exponents (the first is the lowest): its differences so far, and 64,
+// so that no sum is negative. Looked up instead of divided.
+const STEPS: [u32; 125] = [
+    0x3a3c3e,
+    0x3b3c3e,
+    0x3c3c3e,
+    0x3d3c3e,
+    0x3e3c3e,
+    0x3b3d3e,
+    0x3c3d3e,
+    0x3d3d3e,
+    0x3e3d3e,
+    0x3f3d3e,
+    0x3c3e3e,
+    0x3d3e3e,
+    0x3e3e3e,
+    0x3f3e3e,
+    0x403e3e,
+    0x3d3f3e,
+    0x3e3f3e,
+    0x3f3f3e,
+    0x403f3e,
+    0x413f3e,
+    0x3e403e,
+    0x3f403e,
+    0x40403e,
+    0x41403e,
+    0x42403e,
+    0x3b3d3f,
+    0x3c3d3f,
+    0x3d3d3f,
+    0x3e3d3f,
+    0x3f3d3f,
+    0x3c3e3f,
+    0x3d3e3f,
+    0x3e3e3f,
+    0x3f3e3f,
+    0x403e3f,
+    0x3d3f3f,
+    0x3e3f3f,
+    0x3f3f3f,
+    0x403f3f,
+    0x413f3f,
+    0x3e403f,
+    0x3f403f,
+    0x40403f,
+    0x41403f,
+    0x42403f,
+    0x3f413f,
+    0x40413f,
+    0x41413f,
+    0x42413f,
+    0x43413f,
+    0x3c3e40,
+    0x3d3e40,
+    0x3e3e40,
+    0x3f3e40,
+    0x403e40,
+    0x3d3f40,
+    0x3e3f40,
+    0x3f3f40,
+    0x403f40,
+    0x413f40,
+    0x3e4040,
+    0x3f4040,
+    0x404040,
+    0x414040,
+    0x424040,
+    0x3f4140,
+    0x404140,
+    0x414140,
+    0x424140,
+    0x434140,
+    0x404240,
+    0x414240,
+    0x424240,
+    0x434240,
+    0x444240,
+    0x3d3f41,
+    0x3e3f41,
+    0x3f3f41,
+    0x403f41,
+    0x413f41,
+    0x3e4041,
+    0x3f4041,
+    0x404041,
+    0x414041,
+    0x424041,
+    0x3f4141,
+    0x404141,
+    0x414141,
+    0x424141,
+    0x434141,
+    0x404241,
+    0x414241,
+    0x424241,
+    0x434241,
+    0x444241,
+    0x414341,
+    0x424341,
+    0x434341,
+    0x444341,
+    0x454341,
+    0x3e4042,
+    0x3f4042,
+    0x404042,
+    0x414042,
+    0x424042,
+    0x3f4142,
+    0x404142,
+    0x414142,
+    0x424142,
+    0x434142,
+    0x404242,
+    0x414242,
+    0x424242,
+    0x434242,
+    0x444242,
+    0x414342,
+    0x424342,
+    0x434342,
+    0x444342,
+    0x454342,
+    0x424442,
+    0x434442,
+    0x444442,
+    0x454442,
+    0x464442,
 ];
 
-fn differences() -> [u16; 125]
-    ensures { λ r. ⌜ Differences r ⌝ }
+fn steps() -> [u32; 125]
+    ensures { λ r. ⌜ Steps r ⌝ }
 {
-    DIFFERENCES
+    STEPS
+}
+
+// Whether one of three bytes has the bit of 32.
+fn is_marked(three: u32) -> bool
+    ensures { λ r. ⌜ (r ≡ false → Unmarked three) × (Unmarked three → r ≡ false) ⌝ }
+{
+    if three / 32 % 2 != 0 {
+        return true;
+    }
+    if three / 8192 % 2 != 0 {
+        return true;
+    }
+    if three / 2097152 % 2 != 0 {
+        return true;
+    }
+    false
+}
+
+// Whether one of three exponents is outside 0 to 24: with its 64 it has the bit of 32, or has it when 7 more are added.
+fn any_outside(three: u32) -> bool
+    requires { ⌜ NearThree three ⌝ }
+    ensures { λ r. ⌜ (r ≡ false → ThreeInside three) × (ThreeInside three → r ≡ false) ⌝ }
+{
+    if is_marked(three) {
+        return true;
+    }
+    is_marked(three + 7 * EACH)
 }
 
 // A refusal, or the last exponent, in one number: what is at least this is a refusal.
@@ -287,7 +318,7 @@ fn group_at_hand(
     at: u16,
     count: usize,
     row: &mut [i16; 256],
-    differences: &[u16; 125],
+    steps: &[u32; 125],
     item: Item,
     strategy: u8,
     first: usize,
@@ -297,7 +328,7 @@ fn group_at_hand(
     requires { ⌜ strategy < 4 ⌝ }
     requires { ⌜ first + n * (3 * grammar.binsEach strategy) + 3 * grammar.binsEach strategy ≤ 256 ⌝ }
     requires { ⌜ SoundUnpacked (record { last = last; row = now row }) ⌝ }
-    requires { ⌜ Differences (now differences) ⌝ }
+    requires { ⌜ Steps (now steps) ⌝ }
     requires { ⌜ (at + 7 < 65536) × (at / 8 + 1 < length (now s)) × (count * 8 + 8 ≤ length (now rows)) ⌝ }
     ensures { λ r. ⌜ ((limit : ℕ) → at + 7 ≤ limit
         → Reads (grammar.group item (grammar.binsEach strategy) first n (record { last = last; row = now (row .entry) })) (now (s .entry))
@@ -310,22 +341,14 @@ fn group_at_hand(
     if 124 < grouped {
         return 16 * REFUSED;
     }
-    let three = differences[grouped as usize] as u32;
-    let x = last + three % 16;
-    if outside(x) {
-        return 17 * REFUSED;
-    }
-    let y = x - 2 + three / 16 % 16;
-    if outside(y) {
-        return 17 * REFUSED;
-    }
-    let z = y - 2 + three / 256;
-    if outside(z) {
+    let three = last * EACH + steps[grouped as usize];
+    if any_outside(three) {
         return 17 * REFUSED;
     }
     let bin = first + n * (3 * bins_each(strategy));
-    spread(row, bin, strategy, x - 2, y - 2, z - 2);
-    z - 2
+    let z = three / 65536 % 32;
+    spread(row, bin, strategy, three % 32, three / 256 % 32, z);
+    z
 }
 
 // All groups of a set, one by one.
@@ -380,7 +403,7 @@ fn groups_at_hand(
         (record { last = r .last; row = now (row .exit) }) (r .cursor) (now (rows .exit)) ⌝ }
     ensures { λ r. ⌜ SoundUnpacked (record { last = r .last; row = now (row .exit) }) ⌝ }
 {
-    let differences = differences();
+    let steps = steps();
     let limit = c.limit;
     let mut exponent = last;
     let mut at = c.at;
@@ -392,7 +415,7 @@ fn groups_at_hand(
             at,
             at_row,
             row,
-            &differences,
+            &steps,
             item,
             strategy,
             first,

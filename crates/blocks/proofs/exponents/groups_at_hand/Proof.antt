@@ -13,14 +13,14 @@ use Rattle.blocks.proofs.exponents.groups_at_hand.Statement.{statement}
 use Rattle.blocks.proofs.exponents.groups_at_hand.Tie as tie
 
 abbrev Inv-loop : tie.InvT-loop
-Inv-loop s rows₀ row₀ item strategy first count last differences limit exponent₀ at₀ at-row₀ n₀ rows row exponent at at-row n =
+Inv-loop s rows₀ row₀ item strategy first count last steps limit exponent₀ at₀ at-row₀ n₀ rows row exponent at at-row n =
     Turns (group item (binsEach strategy) first) 0 count (record { last = exponent₀; row = row₀ }) s (record { at = at₀; limit = limit; count = at-row₀; stop = 0 }) rows₀
     n (record { last = exponent; row = row }) (record { at = at; limit = limit; count = at-row; stop = 0 }) rows
     × SoundUnpacked (record { last = exponent; row = row })
     × (at ≡ at₀ + 7 * n) × (at-row ≡ at-row₀ + n) × (n ≤ count)
 
 abbrev μ-loop : tie.MeasureT-loop
-μ-loop s rows₀ row₀ item strategy first count last differences limit exponent₀ at₀ at-row₀ n₀ rows row exponent at at-row n = count - n
+μ-loop s rows₀ row₀ item strategy first count last steps limit exponent₀ at₀ at-row₀ n₀ rows row exponent at at-row n = count - n
 
 -- one group more
 module _ (c : tie.After-group-at-hand Inv-loop μ-loop) where
@@ -68,7 +68,7 @@ group-requires c κs =
       s .pre .0,
       (
         group-fits _ _ _ (3 * binsEach (s .args .strategy)) (test .loop-test .taken) (s .pre .1 .0),
-        (inv .1, (c .before .before .before .before .before .differences .ensures, (omega (arith, end, hand .short), omega (arith, end, hand .bytes), omega (arith, inv .0 .long, inv .3, hand .room, test .loop-test .taken)))),
+        (inv .1, (c .before .before .before .before .before .steps .ensures, (omega (arith, end, hand .short), omega (arith, end, hand .bytes), omega (arith, inv .0 .long, inv .3, hand .room, test .loop-test .taken)))),
       ),
     )
 
@@ -81,7 +81,7 @@ groups-at-hand-spec =
     (tie.spec
     Inv-loop
     μ-loop
-    (λ c κs. search needs)  -- differences-requires
+    (λ c κs. search needs)  -- steps-requires
     (λ c. (begins, c .before .before .pre .1 .1 .0, omega arith, omega arith, omega arith))  -- loop-holds
     group-requires
     (λ c. let g = c .before in omega (arith, test g .before .loop .inv .2, hand g .short, test g .loop-test .taken))  -- add-at

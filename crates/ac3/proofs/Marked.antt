@@ -11,7 +11,7 @@ use Rattle.syntax.specs.Names as Name
 use Rattle.syntax.specs.Run.{steering, past, judged, Check, clear, stop, Spot, Result, unless, roomCheck, check, run, rowsOf, parse}
 use Rattle.blocks.specs.Delta.{deltaCode, channelCode, segment, newDeltas, slotDeltas, codedDeltas, deltas}
 use Rattle.blocks.specs.Exponents.{Unpacked, Exponents, step, group, firstName, groupName, exponentSet, slotExponents, channelExponents, exponents}
-use Rattle.blocks.specs.Mantissas.{mantissas}
+use Rattle.mantissas.specs.Mantissas.{mantissas}
 use Rattle.blocks.specs.Parameters.{newCurve, curve, fineOffset, channelOffset, newOffsets, offsets, newLeak, couplingLeak}
 use Rattle.blocks.specs.Slots.{CPL, LFE}
 use Rattle.blocks.specs.declared.AllocState.{AllocState}

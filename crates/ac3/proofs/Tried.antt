@@ -17,9 +17,9 @@ use Rattle.alloc.specs.Listed.{from as Listed-from, table, excitations, pointer
 use Rattle.alloc.specs.Steps.{relative, stepOf, addressFrom, stepAt}
 use Rattle.blocks.specs.Delta.{deltaCode, channelCode, segment, newDeltas, slotDeltas, codedDeltas, deltas}
 use Rattle.blocks.specs.Exponents.{step, group, exponentSet, slotExponents, channelExponents, exponents}
-use Rattle.blocks.specs.Mantissas.{silent, pointers, allPointers, widths, mantissas}
+use Rattle.mantissas.specs.Mantissas.{silent, pointers, allPointers, widths, mantissas}
 use Rattle.blocks.specs.Parameters.{newCurve, curve, fineOffset, channelOffset, newOffsets, offsets, newLeak, couplingLeak}
-use Rattle.blocks.specs.Slots.{channelParts, parts}
+use Rattle.mantissas.specs.Parts.{channelParts, parts}
 use Rattle.ac3.specs.AudioBlock.{channelFlags, dynamicRange, skipField, allocState, allSent, audioBlock}
 use Rattle.ac3.specs.Coupling.{howMany, coupledChannels, joined, couplingBands, newCoupling, couplingStrategy, coordinate, channelCoordinates, phaseFlags, couplingCoordinates, rematrixing}
 use Rattle.ac3.specs.Frame.{audio, syncframe, answered}

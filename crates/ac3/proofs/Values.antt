@@ -8,7 +8,7 @@ use Rattle.alloc.specs.Alloc.{logadd, snrOffset, bandOf}
 use Rattle.alloc.specs.Delta.{deltaOf}
 use Rattle.bits.specs.Bits.{value, bitAt}
 use Rattle.blocks.specs.Exponents.{group, step}
-use Rattle.blocks.specs.Mantissas.{widths}
+use Rattle.mantissas.specs.Mantissas.{widths}
 use Rattle.syntax.specs.Grammar.{_>>=_}
 use Rattle.syntax.specs.Run.{sum, run, unless, roomCheck, check}
 use Rattle.tables.specs.Tables.{frameBytes, words48, words44, bapBits, bandEnd, logAdd}

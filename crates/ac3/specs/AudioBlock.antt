@@ -12,7 +12,7 @@ use Rattle.tables.specs.Tables.{nfchans}
 use Rattle.blocks.specs.declared.AllocState.{AllocState}
 use Rattle.blocks.specs.Delta.{deltas}
 use Rattle.blocks.specs.Exponents.{Exponents, exponents}
-use Rattle.blocks.specs.Mantissas.{mantissas}
+use Rattle.mantissas.specs.Mantissas.{mantissas}
 use Rattle.blocks.specs.Parameters.{curve, offsets, couplingLeak}
 use Rattle.ac3.specs.Coupling.{couplingStrategy, couplingCoordinates, rematrixing}
 use Rattle.ac3.specs.Header.{programmes}

@@ -2,8 +2,5 @@ pub mod Slots
 pub mod Exponents
 pub mod Parameters
 pub mod Delta
-pub mod Mantissas
-pub mod Counts
-pub mod Kept
 pub mod AtHand
 pub mod Sound

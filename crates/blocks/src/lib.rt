@@ -2,9 +2,7 @@
 // Slots: full bandwidth channels 0 to 4, coupling 5, LFE 6.
 pub mod delta;
 pub mod exponents;
-pub mod mantissas;
 pub mod parameters;
-mod weights;
 
 ghost use mathlib.Core.Path.{_≡_};
 ghost use Prim.Native.Nat.{_<_};
@@ -88,25 +86,4 @@ pub struct AllocState {
     pub offsets: Offsets,
     pub leak: CouplingLeak,
     pub deltas: [Deltas; 7],
-}
-
-// A slot in use, with its first bin and the first bin past its last.
-pub struct Part {
-    pub slot: u8,
-    pub start: usize,
-    pub end: usize,
-}
-
-// The slots in use, in the order of their mantissas.
-pub struct Parts {
-    pub count: usize,
-    pub list: [Part; 7],
-}
-
-// Mantissas counted: the bits of those that stand alone, and how many there are of pointers 1, 2 and 4.
-pub struct Counts {
-    pub bits: u32,
-    pub ones: u32,
-    pub twos: u32,
-    pub fours: u32,
 }

@@ -3,9 +3,9 @@ use Prim.Native.Nat.{_-_, _≤_}
 use native.Mathlib.Omega.{arith}
 use borrow.Author.Needs.{needs}
 use Rattle.syntax.proofs.Sequence.{Turns, begins, turn, ends, leaves, then, finished, stopped, standing}
-use Rattle.blocks.specs.Kept.{Kept}
+use Rattle.mantissas.specs.Kept.{Kept}
 use Rattle.blocks.specs.Sound.{SoundExps}
-use Rattle.blocks.proofs.Kept.{kept-none}
+use Rattle.mantissas.proofs.Kept.{kept-none}
 use Rattle.ac3.specs.AudioBlock.{audioBlock}
 use Rattle.ac3.specs.Frame.{unread, audio}
 use Rattle.ac3.specs.Sound.{SoundState}

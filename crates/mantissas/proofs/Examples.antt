@@ -1,0 +1,25 @@
+-- Small cases of the order of the slots and of the mantissas, by computation: what document 01 names as slips comes out otherwise here. Assumes nothing.
+use mathlib.Core.Bool.{true, false}
+use mathlib.Core.List.{[], _∷_}
+use mathlib.Core.Path.{_≡_, refl}
+use Rattle.syntax.specs.Run.{sum}
+use Rattle.tables.specs.Tables.{bapBits}
+use Rattle.blocks.specs.Slots.{CPL, LFE}
+use Rattle.blocks.specs.declared.Coupling.{Coupling}
+use Rattle.mantissas.specs.Parts.{part, channelParts, parts}
+use Rattle.mantissas.specs.Mantissas.{widths, noneOpen}
+
+-- channels 1 and 2 of three are coupled from bin 97 up to bin 108
+coupling : Coupling
+coupling = record { cplinu = true; chincpl = false ∷ true ∷ true ∷ false ∷ false ∷ []; phsflginu = false; cplbegf = 5; cplendf = 3; ncplbnd = 1 }
+
+-- the coupling range ends past its last bin and comes directly after the first coupled channel; LFE is last
+slots-in-order : parts 3 true coupling (76 ∷ 97 ∷ 97 ∷ 0 ∷ 0 ∷ [])
+    ≡ part 0 0 76 ∷ part 1 0 97 ∷ part CPL 97 109 ∷ part 2 0 97 ∷ part LFE 0 7 ∷ []
+unfolding parts channelParts coupling
+slots-in-order = refl
+
+-- groups of mantissas go on from one channel to the next: three of bap 1 share five bits wherever they stand
+one-group : sum (widths noneOpen (1 ∷ 0 ∷ 1 ∷ 3 ∷ 1 ∷ [])) ≡ 8
+unfolding sum widths bapBits
+one-group = refl

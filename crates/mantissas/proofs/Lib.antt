@@ -1,0 +1,7 @@
+pub mod Between
+pub mod Kept
+pub mod InOrder
+pub mod Pointers
+pub mod Counting
+pub mod Walks
+pub mod Examples

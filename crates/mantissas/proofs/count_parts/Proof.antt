@@ -1,0 +1,62 @@
+-- `mantissas::count_parts` meets its contract: what is counted, and then the slots that are left, is the whole. Assumes nothing.
+use mathlib.Core.Path.{_≡_, refl, sym, _∙_}
+use Prim.Native.Nat.{_-_, _*_, _≤_}
+use native.Mathlib.Omega.{arith}
+use lib.ListN.{getD}
+use borrow.Author.Needs.{needs}
+use Rattle.mantissas.specs.Counts.{between, noPart, listed, noCounts, countedAll, AtMost}
+use Rattle.mantissas.specs.Kept.{Kept}
+use Rattle.mantissas.specs.Mantissas.{partPointers, allPointers}
+use Rattle.mantissas.proofs.Between.{between-none}
+use Rattle.mantissas.proofs.Counting.{counted-append, counted-added, plus-at-most, no-more, none-counted}
+use Rattle.mantissas.proofs.Pointers.{first-part}
+use Rattle.mantissas.proofs.count_parts.Statement.{statement}
+use Rattle.mantissas.proofs.count_parts.Tie as tie
+
+abbrev Inv-loop : tie.InvT-loop
+Inv-loop fscod st exps memos₀ origins₀ quiet ps counts₀ count i₀ memos origins counts i =
+    (countedAll counts (allPointers fscod st exps quiet (between noPart (ps .list) i count)) ≡ countedAll noCounts (allPointers fscod st exps quiet (listed ps)))
+    × AtMost (253 * i) counts × (i ≤ count) × Kept fscod memos origins
+
+abbrev μ-loop : tie.MeasureT-loop
+μ-loop fscod st exps memos₀ origins₀ quiet ps counts₀ count i₀ memos origins counts i = count - i
+
+again : tie.Need-loop-again Inv-loop μ-loop
+again c =
+    let p = c .before in
+    let test = p .before .before .before .before in
+    let s = test .before .before in
+    let at = test .before .loop in
+    let part = getD (s .args .t7 .list) (at .i) noPart in
+    let baps = partPointers (s .args .fscod) (s .args .st) (s .args .exps .now) (s .args .quiet) part in
+    let is : c .add .result ≡ countedAll (at .counts) baps = c .add .ensures ∙ rw (p .part-counts .ensures .0) (sym (counted-added (at .counts) baps)) in
+    let step = first-part (s .args .fscod) (s .args .st) (s .args .exps .now) (s .args .quiet) (s .args .t7 .list) (test .loop-test .taken) in (
+      rw is (sym (counted-append (at .counts) _ _) ∙ (rw step at (at .inv .0))),
+      rw (c .add .ensures) (plus-at-most (at .inv .1) (p .part-counts .ensures .1 .0) (omega arith)),
+      omega arith,
+      p .part-counts .ensures .1 .1,
+    )
+
+returns : tie.Need-returns Inv-loop μ-loop
+unfolding allPointers countedAll
+returns c =
+    let at = c .before .loop in
+    (rw (between-none noPart (c .before .before .args .t7 .list) (c .loop-test .left)) at (at .inv .0), (no-more (at .inv .1) (omega (arith, at .inv .2)), at .inv .3))
+
+pub count-parts-spec : {M : Type 1} → statement M
+count-parts-spec =
+    tie.close
+    (tie.spec
+    Inv-loop
+    μ-loop
+    (λ c. (refl, none-counted, omega arith, c .pre .1))  -- loop-holds
+    (λ c. search needs)  -- mul-p
+    (λ c. search needs)  -- element-copy-out-p
+    (λ c κs. let s = c .before .before .before .before .before in ((s .pre .0 .0, s .pre .0 .1, s .pre .0 .2, s .pre .0 .3 .each (c .before .before .before .before .loop .i)), c .before .before .before .before .loop .inv .3))  -- part-counts-requires
+    (λ c κs.
+    let at = c .before .before .before .before .before .loop in
+    (no-more (at .inv .1) (omega (arith, at .inv .2)), no-more (c .part-counts .ensures .1 .0) (omega arith)))  -- add-requires
+    (λ c. search needs)  -- add-i
+    (λ c. search needs)  -- loop-less
+    again
+    returns)

@@ -1,0 +1,51 @@
+-- What was counted of a slot is kept with what it was counted from, so that it need not be counted again while that is the same. No part of
+-- the definition: `Kept` only says that what is kept is true of itself.
+use mathlib.Core.Bool.{true}
+use mathlib.Core.List.{List, [], _∷_}
+use mathlib.Core.Path.{_≡_}
+use Prim.Native.Nat.{ℕ, _<_}
+use lib.IntN.{ℤ}
+use lib.ListN.{length, getD}
+use Rattle.alloc.specs.Alloc.{at, snrOffset}
+use Rattle.alloc.specs.Listed.{pointerList}
+use Rattle.tables.specs.Tables.{slowDecay, fastDecay, slowGain, fastGain, knee, floor}
+use Rattle.mantissas.specs.Counts.{noCounts, countedAll}
+use Rattle.mantissas.specs.Mantissas.{leakBefore}
+use Rattle.blocks.specs.declared.AllocState.{AllocState}
+use Rattle.mantissas.specs.declared.Counts.{Counts}
+use Rattle.mantissas.specs.declared.Part.{Part}
+
+-- what a slot without delta segments goes by, besides its exponents, and what was counted
+abbrev pub memoOf : AllocState → Part → Counts → List ℕ
+memoOf st p n =
+    p .start ∷ p .end
+    ∷ st .curve .sdcycod ∷ st .curve .fdcycod ∷ st .curve .sgaincod ∷ st .curve .dbpbcod ∷ st .curve .floorcod
+    ∷ st .offsets .csnroffst ∷ getD (st .offsets .fsnroffst) (p .slot) 0 ∷ getD (st .offsets .fgaincod) (p .slot) 0
+    ∷ st .leak .cplfleak ∷ st .leak .cplsleak
+    ∷ n .bits ∷ n .ones ∷ n .twos ∷ n .fours ∷ []
+
+-- the pointers that go by it
+abbrev pub pointersBy : (fscod slot : ℕ) → (ℕ → ℕ) → List ℤ → List ℕ
+pointersBy fscod slot k row =
+    pointerList row (k 0) (k 1)
+    (record { fdecay = fastDecay (k 3); sdecay = slowDecay (k 2); fgain = fastGain (k 9); sgain = slowGain (k 4) })
+    (knee (k 5)) fscod (leakBefore (record { sent = true; cplfleak = k 10; cplsleak = k 11 }) slot) (snrOffset (k 7) (k 8)) (floor (k 6)) [] 0
+
+abbrev pub countsIn : List ℕ → Counts
+countsIn kept = record { bits = getD kept 12 0; ones = getD kept 13 0; twos = getD kept 14 0; fours = getD kept 15 0 }
+
+-- two were counted from the same, besides the exponents
+abbrev pub SameBasis : List ℕ → List ℕ → Type 0
+SameBasis kept memo = (i : ℕ) → i < 12 → getD kept i 0 ≡ getD memo i 0
+
+-- two rows of exponents are the same
+abbrev pub SameRow : List ℤ → List ℤ → Type 0
+SameRow a b = (bin : ℕ) → bin < 256 → at a bin ≡ at b bin
+
+abbrev pub KeptOf : (fscod slot : ℕ) → List ℕ → List ℤ → Type 0
+KeptOf fscod slot kept row = countsIn kept ≡ countedAll noCounts (pointersBy fscod slot (λ i. getD kept i 0) row)
+
+pub record Kept (fscod : ℕ) (memos : List (List ℕ)) (rows : List (List ℤ)) : Type 0 where
+  pub seven-memos : length memos ≡ 7
+  pub seven-rows : length rows ≡ 7
+  pub each : (slot : ℕ) → slot < 7 → KeptOf fscod slot (getD memos slot []) (getD rows slot [])

@@ -1,0 +1,4 @@
+pub mod Parts
+pub mod Mantissas
+pub mod Counts
+pub mod Kept

@@ -1,0 +1,110 @@
+-- The bit allocation of a block and its mantissas (4.3.3, 6.2.2.1, 6.3.5): one list of bit allocation pointers, one pass.
+use mathlib.Core.Bool.{Bool, true, false, _&&_, not, cond}
+use mathlib.Core.List.{List, [], _∷_, _++_}
+use Prim.Native.Nat.{ℕ, _+_, _-_, _*_, _%_}
+use lib.Dec.{eqb}
+use lib.IntN.{ℤ, pos}
+use lib.ListN.{getD, replicate}
+use Rattle.alloc.specs.Alloc.{snrOffset}
+use Rattle.alloc.specs.Listed.{pointerList}
+use Rattle.alloc.specs.declared.Gains.{Gains}
+use Rattle.alloc.specs.declared.Leak.{Leak}
+use Rattle.syntax.specs.declared.Role.the-variants.{Mantissas}
+use Rattle.syntax.specs.Grammar.{Grammar, done, _>>=_, _>>_, oneRoled, pieces, position, refuseIf}
+use Rattle.syntax.specs.Names as Name
+use Rattle.tables.specs.Tables.{slowDecay, fastDecay, slowGain, fastGain, knee, floor, bapBits}
+use Rattle.blocks.specs.Delta.{noDeltas}
+use Rattle.blocks.specs.Slots.{CPL, LFE}
+use Rattle.blocks.specs.declared.AllocState.{AllocState}
+use Rattle.blocks.specs.declared.Coupling.{Coupling}
+use Rattle.blocks.specs.declared.CouplingLeak.{CouplingLeak}
+use Rattle.blocks.specs.declared.Deltas.{Deltas}
+use Rattle.blocks.specs.declared.Offsets.{Offsets}
+use Rattle.mantissas.specs.Parts.{parts}
+use Rattle.mantissas.specs.declared.Part.{Part}
+
+-- ---- 6.2.2.1: pointers
+
+-- the coarse offset and the fine ones of the slots in use are all 0: then every pointer is 0
+unfoldable pub silent : Offsets → List Part → Bool
+silent o [] = eqb (o .csnroffst) 0
+silent o (p ∷ ps) = eqb (getD (o .fsnroffst) (p .slot) 0) 0 && silent o ps
+
+-- the leaks of a slot before its first band
+abbrev pub leakBefore : CouplingLeak → (slot : ℕ) → Leak
+leakBefore l slot =
+    let start : ℕ → ℤ = λ code. cond (eqb slot CPL) (pos (256 * code + 768)) (pos 0) in
+    record { fast = start (l .cplfleak); slow = start (l .cplsleak); low = pos 0; excite = pos 0; risen = false }
+
+abbrev pub gainsOf : AllocState → (slot : ℕ) → Gains
+gainsOf st slot =
+    record {
+      fdecay = fastDecay (st .curve .fdcycod);
+      sdecay = slowDecay (st .curve .sdcycod);
+      fgain = fastGain (getD (st .offsets .fgaincod) slot 0);
+      sgain = slowGain (st .curve .sgaincod);
+    }
+
+-- LFE has no delta
+abbrev pub deltasOf : AllocState → (slot : ℕ) → Deltas
+deltasOf st slot = cond (eqb slot LFE) noDeltas (getD (st .deltas) slot noDeltas)
+
+unfoldable pub pointers : (fscod : ℕ) → AllocState → List (List ℤ) → Part → List ℕ
+pointers fscod st exps p =
+    let d = deltasOf st (p .slot) in
+    let snr = snrOffset (st .offsets .csnroffst) (getD (st .offsets .fsnroffst) (p .slot) 0) in
+    pointerList (getD exps (p .slot) []) (p .start) (p .end) (gainsOf st (p .slot)) (knee (st .curve .dbpbcod)) fscod (leakBefore (st .leak) (p .slot))
+    snr (floor (st .curve .floorcod)) (d .segments) (d .count)
+
+abbrev pub partPointers : (fscod : ℕ) → AllocState → List (List ℤ) → (quiet : Bool) → Part → List ℕ
+partPointers fscod st exps quiet p = cond quiet (replicate (p .end - p .start) 0) (pointers fscod st exps p)
+
+unfoldable pub allPointers : (fscod : ℕ) → AllocState → List (List ℤ) → (quiet : Bool) → List Part → List ℕ
+allPointers fscod st exps quiet [] = []
+allPointers fscod st exps quiet (p ∷ ps) = partPointers fscod st exps quiet p ++ allPointers fscod st exps quiet ps
+
+-- ---- 6.3.5: the bits that each pointer takes
+
+-- how many mantissas the open group of pointers 1, 2 and 4 has; 0 where none is open
+pub record Open : Type 0 where
+  pub ones : ℕ
+  pub twos : ℕ
+  pub fours : ℕ
+
+abbrev pub noneOpen : Open
+noneOpen = record { ones = 0; twos = 0; fours = 0 }
+
+-- the first mantissa of a group takes the bits of all
+abbrev pub bitsOf : Open → ℕ → ℕ
+bitsOf g bap =
+    cond (eqb bap 1) (cond (eqb (g .ones) 0) 5 0)
+    (cond (eqb bap 2) (cond (eqb (g .twos) 0) 7 0)
+    (cond (eqb bap 4) (cond (eqb (g .fours) 0) 7 0)
+    (bapBits bap)))
+
+abbrev pub nowOpen : Open → ℕ → Open
+nowOpen g bap =
+    record {
+      ones = cond (eqb bap 1) ((g .ones + 1) % 3) (g .ones);
+      twos = cond (eqb bap 2) ((g .twos + 1) % 3) (g .twos);
+      fours = cond (eqb bap 4) ((g .fours + 1) % 2) (g .fours);
+    }
+
+unfoldable pub widths : Open → List ℕ → List ℕ
+widths g [] = []
+widths g (bap ∷ baps) = bitsOf g bap ∷ widths (nowOpen g bap) baps
+
+-- ---- the mantissas of a block: the bit at which they begin
+
+-- coupling needs its leak, unless every pointer is 0
+abbrev pub leakMissing : (quiet cplinu sent : Bool) → Bool
+leakMissing quiet cplinu sent = not quiet && (cplinu && not sent)
+
+unfoldable pub mantissas : (blk fscod nfchans : ℕ) (lfeon : Bool) → Coupling → (ends : List ℕ) → AllocState → List (List ℤ) → Grammar ℕ
+mantissas blk fscod nfchans lfeon c ends st exps = do
+  let ps = parts nfchans lfeon c ends
+  let quiet = silent (st .offsets) ps
+  refuseIf (leakMissing quiet (c .cplinu) (st .leak .sent)) 20
+  start ← position
+  pieces (oneRoled blk Mantissas Name.mantissas) (widths noneOpen (allPointers fscod st exps quiet ps))
+  done start

@@ -90,7 +90,6 @@ pub fn audio(s: &[u8], rows: &mut [i32], c: Cursor, header: Header) -> AudioRead
 {
     let mut exps = [[0i16; 256]; 7];
     let mut memos = [[0u32; 16]; 7];
-    let mut origins = [[0i16; 256]; 7];
     let mut state = unsent();
     let mut tally = uncounted();
     let mut cursor = c;
@@ -104,7 +103,6 @@ pub fn audio(s: &[u8], rows: &mut [i32], c: Cursor, header: Header) -> AudioRead
             cursor,
             &mut exps,
             &mut memos,
-            &mut origins,
             header,
             blk,
             state,

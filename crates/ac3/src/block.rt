@@ -183,7 +183,6 @@ pub fn audio_block(
     c: Cursor,
     exps: &mut [[i16; 256]; 7],
     memos: &mut [[u32; 16]; 7],
-    origins: &mut [[i16; 256]; 7],
     header: Header,
     blk: u8,
     old: State,
@@ -193,12 +192,12 @@ pub fn audio_block(
     requires { ⌜ SoundHeader header ⌝ }
     requires { ⌜ SoundState old ⌝ }
     requires { ⌜ SoundExps (now exps) ⌝ }
-    requires { ⌜ Kept (header .fscod) (now memos) (now origins) ⌝ }
+    requires { ⌜ Kept (header .fscod) (now memos) (now exps) ⌝ }
     ensures { λ r. ⌜ Reads (grammar.audioBlock header blk (record { state = old; exps = now (exps .entry); tally = tally })) (now (s .entry)) c (now (rows .entry)) (record { state = r .state; exps = now (exps .exit); tally = r .tally }) (r .cursor) (now (rows .exit)) ⌝ }
     ensures { λ r. ⌜ SoundState (r .state) ⌝ }
     ensures { λ r. ⌜ SoundExps (now (exps .exit)) ⌝ }
     ensures { λ r. ⌜ r .tally .coupled ≤ blk + 1 ⌝ }
-    ensures { λ _. ⌜ Kept (header .fscod) (now (memos .exit)) (now (origins .exit)) ⌝ }
+    ensures { λ _. ⌜ Kept (header .fscod) (now (memos .exit)) (now (exps .exit)) ⌝ }
 {
     let start = c.at;
     let fscod = header.fscod;
@@ -235,6 +234,7 @@ pub fn audio_block(
         rows,
         at,
         exps,
+        memos,
         blk,
         n,
         lfeon,
@@ -259,7 +259,6 @@ pub fn audio_block(
         alloc,
         exps,
         memos,
-        origins,
     );
     let cursor = mant.cursor;
     let chincpl = coupling.chincpl;

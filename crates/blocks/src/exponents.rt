@@ -23,6 +23,7 @@ ghost use Rattle.syntax.specs.Grammar.{for, readIf};
 ghost use Rattle.syntax.specs.Reads.{Reads};
 ghost use Rattle.blocks.specs.Slots as slots;
 ghost use Rattle.blocks.specs.Exponents as grammar;
+ghost use Rattle.blocks.specs.Forgotten.{nothing, Forgets};
 ghost use Rattle.blocks.specs.AtHand.{Steps, Unmarked, NearThree, ThreeInside, AtHand};
 ghost use Rattle.blocks.specs.Sound.{SoundRow, SoundUnpacked, SoundExps, Entries, SoundCoupling, SoundStrategies, SoundEnds};
 
@@ -628,12 +629,20 @@ fn covering(slot: u8, start: usize, end: usize, cover: Cover) -> Cover
     next
 }
 
-// New exponents of a slot, or those in force.
+// Nothing is kept of a slot any more.
+fn forget(memo: &mut [u32; 16])
+    ensures { λ _. ⌜ now (memo .exit) ≡ nothing ⌝ }
+{
+    *memo = [0u32; 16];
+}
+
+// New exponents of a slot, or those in force. What is kept of a slot goes by its exponents, so that it is forgotten where they are new.
 fn slot_exponents(
     s: &[u8],
     rows: &mut [i32],
     c: Cursor,
     exps: &mut [[i16; 256]; 7],
+    memos: &mut [[u32; 16]; 7],
     blk: u8,
     refusal: u8,
     slot: u8,
@@ -648,12 +657,14 @@ fn slot_exponents(
     ensures { λ r. ⌜ Reads (grammar.slotExponents blk refusal slot strategy start end (record { cover = cover; exps = now (exps .entry) })) (now (s .entry)) c (now (rows .entry))
         (record { cover = r .cover; exps = now (exps .exit) }) (r .cursor) (now (rows .exit)) ⌝ }
     ensures { λ _. ⌜ SoundExps (now (exps .exit)) ⌝ }
+    ensures { λ _. ⌜ Forgets (now (memos .entry)) (now (exps .entry)) (now (memos .exit)) (now (exps .exit)) ⌝ }
 {
     if strategy == 0 {
         let cursor = syntax::refuse_if(c, !covers(cover, slot, start, end), refusal);
         return ExponentsRead { cover, cursor };
     }
     let at = slot as usize;
+    forget(&mut memos[at]);
     let cursor = exponent_set(s, rows, c, &mut exps[at], blk, slot, strategy, start, end);
     ExponentsRead {
         cover: covering(slot, start, end, cover),
@@ -667,6 +678,7 @@ fn slot_exponents_if(
     rows: &mut [i32],
     c: Cursor,
     exps: &mut [[i16; 256]; 7],
+    memos: &mut [[u32; 16]; 7],
     present: bool,
     blk: u8,
     refusal: u8,
@@ -683,6 +695,7 @@ fn slot_exponents_if(
         (grammar.slotExponents blk refusal slot strategy start end (record { cover = cover; exps = now (exps .entry) }))) (now (s .entry)) c (now (rows .entry))
         (record { cover = r .cover; exps = now (exps .exit) }) (r .cursor) (now (rows .exit)) ⌝ }
     ensures { λ _. ⌜ SoundExps (now (exps .exit)) ⌝ }
+    ensures { λ _. ⌜ Forgets (now (memos .entry)) (now (exps .entry)) (now (memos .exit)) (now (exps .exit)) ⌝ }
 {
     if present {
         return slot_exponents(
@@ -690,6 +703,7 @@ fn slot_exponents_if(
             rows,
             c,
             exps,
+            memos,
             blk,
             refusal,
             slot,
@@ -708,6 +722,7 @@ fn channel_exponents(
     rows: &mut [i32],
     c: Cursor,
     exps: &mut [[i16; 256]; 7],
+    memos: &mut [[u32; 16]; 7],
     blk: u8,
     chexpstr: [u8; 5],
     ends: [usize; 5],
@@ -719,10 +734,24 @@ fn channel_exponents(
     ensures { λ r. ⌜ Reads (grammar.channelExponents blk chexpstr ends ch (record { cover = cover; exps = now (exps .entry) })) (now (s .entry)) c (now (rows .entry))
         (record { cover = r .cover; exps = now (exps .exit) }) (r .cursor) (now (rows .exit)) ⌝ }
     ensures { λ _. ⌜ SoundExps (now (exps .exit)) ⌝ }
+    ensures { λ _. ⌜ Forgets (now (memos .entry)) (now (exps .entry)) (now (memos .exit)) (now (exps .exit)) ⌝ }
 {
     let at = ch as usize;
     let strategy = chexpstr[at];
-    let e = slot_exponents(s, rows, c, exps, blk, 14, ch, strategy, 0, ends[at], cover);
+    let e = slot_exponents(
+        s,
+        rows,
+        c,
+        exps,
+        memos,
+        blk,
+        14,
+        ch,
+        strategy,
+        0,
+        ends[at],
+        cover,
+    );
     let gainrng = Item {
         name: names::GAINRNG,
         role: Role::Plain,
@@ -734,12 +763,14 @@ fn channel_exponents(
     ExponentsRead { cover, cursor }
 }
 
-// The exponents of a block: coupling, the channels, LFE. Those in force are lent; their cover goes in by value and comes back.
+// The exponents of a block: coupling, the channels, LFE. Those in force are lent, with what is kept of their slots; their cover goes in by value and
+// comes back.
 pub fn exponents(
     s: &[u8],
     rows: &mut [i32],
     c: Cursor,
     exps: &mut [[i16; 256]; 7],
+    memos: &mut [[u32; 16]; 7],
     blk: u8,
     nfchans: u8,
     lfeon: bool,
@@ -754,6 +785,7 @@ pub fn exponents(
     ensures { λ r. ⌜ Reads (grammar.exponents blk nfchans lfeon coupling strategies ends (record { cover = cover; exps = now (exps .entry) })) (now (s .entry)) c (now (rows .entry))
         (record { cover = r .cover; exps = now (exps .exit) }) (r .cursor) (now (rows .exit)) ⌝ }
     ensures { λ _. ⌜ SoundExps (now (exps .exit)) ⌝ }
+    ensures { λ _. ⌜ Forgets (now (memos .entry)) (now (exps .entry)) (now (memos .exit)) (now (exps .exit)) ⌝ }
 {
     let chexpstr = strategies.chexpstr;
     let start = first_coupled(coupling.cplbegf);
@@ -763,6 +795,7 @@ pub fn exponents(
         rows,
         c,
         exps,
+        memos,
         coupling.cplinu,
         blk,
         13,
@@ -775,7 +808,18 @@ pub fn exponents(
     let mut covered = coupled.cover;
     let mut cursor = coupled.cursor;
     for ch in 0..nfchans {
-        let next = channel_exponents(s, rows, cursor, exps, blk, chexpstr, ends, ch, covered);
+        let next = channel_exponents(
+            s,
+            rows,
+            cursor,
+            exps,
+            memos,
+            blk,
+            chexpstr,
+            ends,
+            ch,
+            covered,
+        );
         covered = next.cover;
         cursor = next.cursor;
     }
@@ -784,6 +828,7 @@ pub fn exponents(
         rows,
         cursor,
         exps,
+        memos,
         lfeon,
         blk,
         15,

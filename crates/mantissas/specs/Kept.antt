@@ -1,12 +1,12 @@
--- What was counted of a slot is kept with what it was counted from, so that it need not be counted again while that is the same. No part of
--- the definition: `Kept` only says that what is kept is true of itself.
+-- What was counted of a slot is kept with what it was counted from, besides its exponents: those in force. So it need not be counted again while
+-- all that is the same. No part of the definition: `Kept` only says that what is kept is true.
 use mathlib.Core.Bool.{true}
 use mathlib.Core.List.{List, [], _∷_}
 use mathlib.Core.Path.{_≡_}
 use Prim.Native.Nat.{ℕ, _<_}
 use lib.IntN.{ℤ}
 use lib.ListN.{length, getD}
-use Rattle.alloc.specs.Alloc.{at, snrOffset}
+use Rattle.alloc.specs.Alloc.{snrOffset}
 use Rattle.alloc.specs.Listed.{pointerList}
 use Rattle.tables.specs.Tables.{slowDecay, fastDecay, slowGain, fastGain, knee, floor}
 use Rattle.mantissas.specs.Counts.{noCounts, countedAll}
@@ -38,14 +38,9 @@ countsIn kept = record { bits = getD kept 12 0; ones = getD kept 13 0; twos = ge
 abbrev pub SameBasis : List ℕ → List ℕ → Type 0
 SameBasis kept memo = (i : ℕ) → i < 12 → getD kept i 0 ≡ getD memo i 0
 
--- two rows of exponents are the same
-abbrev pub SameRow : List ℤ → List ℤ → Type 0
-SameRow a b = (bin : ℕ) → bin < 256 → at a bin ≡ at b bin
-
 abbrev pub KeptOf : (fscod slot : ℕ) → List ℕ → List ℤ → Type 0
 KeptOf fscod slot kept row = countsIn kept ≡ countedAll noCounts (pointersBy fscod slot (λ i. getD kept i 0) row)
 
-pub record Kept (fscod : ℕ) (memos : List (List ℕ)) (rows : List (List ℤ)) : Type 0 where
-  pub seven-memos : length memos ≡ 7
-  pub seven-rows : length rows ≡ 7
-  pub each : (slot : ℕ) → slot < 7 → KeptOf fscod slot (getD memos slot []) (getD rows slot [])
+pub record Kept (fscod : ℕ) (memos : List (List ℕ)) (exps : List (List ℤ)) : Type 0 where
+  pub seven : length memos ≡ 7
+  pub each : (slot : ℕ) → slot < 7 → KeptOf fscod slot (getD memos slot []) (getD exps slot [])

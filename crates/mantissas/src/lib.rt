@@ -36,7 +36,7 @@ ghost use Rattle.mantissas.specs.Mantissas.{noneOpen, widths, allPointer
 ghost use Rattle.mantissas.specs.Parts as slots;
 ghost use Rattle.mantissas.specs.Parts.{part};
 ghost use Rattle.mantissas.specs.Counts.{Addresses, pointersAt, listed, SoundPart, SoundParts, noCounts, counted, countedAll, plus, widthOf, openAfter, AtMost, packed};
-ghost use Rattle.mantissas.specs.Kept.{memoOf, countsIn, SameBasis, SameRow, Kept};
+ghost use Rattle.mantissas.specs.Kept.{memoOf, countsIn, SameBasis, Kept};
 ghost use Rattle.blocks.specs.Sound.{SoundCoupling, SoundEnds, SoundAlloc, SoundLeak, SoundSegments, SoundExps};
 
 // A slot in use, with its first bin and the first bin past its last.
@@ -351,7 +351,7 @@ fn width_of(n: Counts) -> u32
     n.bits + 5 * ((n.ones + 2) / 3) + 7 * ((n.twos + 2) / 3) + 7 * ((n.fours + 1) / 2)
 }
 
-// ---- mantissas counted before: kept while nothing that they depend on has changed
+// ---- mantissas counted before: kept while nothing that they depend on has changed. (`blocks` forgets them where exponents are new.)
 
 // What the pointers of a slot without delta segments go by, besides its exponents; and then what was counted.
 fn memo(st: AllocState, p: Part, n: Counts) -> [u32; 16]
@@ -394,35 +394,6 @@ fn same_basis(kept: &[u32; 16], memo: &[u32; 16]) -> bool
     true
 }
 
-// Whether two exponents are not the same.
-fn is_other(a: i16, b: i16) -> bool
-    ensures { λ r. ⌜ (r ≡ false → a ≡ b) ⌝ }
-{
-    if a == b {
-        return false;
-    }
-    true
-}
-
-// Whether two rows of exponents are the same; every entry is looked at, so that many are compared at once.
-fn same_row(a: &[i16; 256], b: &[i16; 256]) -> bool
-    ensures { λ r. ⌜ (r ≡ true → SameRow (now (a .entry)) (now (b .entry))) ⌝ }
-{
-    let mut others = 0u16;
-    for i in 0..256 {
-        if is_other(a[i], b[i]) {
-            others += 1;
-        }
-    }
-    others == 0
-}
-
-fn keep_row(to: &mut [i16; 256], row: [i16; 256])
-    ensures { λ _. ⌜ now (to .exit) ≡ row ⌝ }
-{
-    *to = row;
-}
-
 fn keep_memo(to: &mut [u32; 16], memo: [u32; 16])
     ensures { λ _. ⌜ now (to .exit) ≡ memo ⌝ }
 {
@@ -457,14 +428,13 @@ fn counts_of(
     st: AllocState,
     exps: &[[i16; 256]; 7],
     memos: &mut [[u32; 16]; 7],
-    origins: &mut [[i16; 256]; 7],
     p: Part,
 ) -> Counts
     requires { ⌜ (fscod < 3) × SoundAlloc st × SoundExps (now exps) × SoundPart p ⌝ }
-    requires { ⌜ Kept fscod (now memos) (now origins) ⌝ }
+    requires { ⌜ Kept fscod (now memos) (now exps) ⌝ }
     ensures { λ r. ⌜ r ≡ countedAll noCounts (grammar.pointers fscod st (now (exps .entry)) p) ⌝ }
     ensures { λ r. ⌜ AtMost 253 r ⌝ }
-    ensures { λ _. ⌜ Kept fscod (now (memos .exit)) (now (origins .exit)) ⌝ }
+    ensures { λ _. ⌜ Kept fscod (now (memos .exit)) (now (exps .entry)) ⌝ }
 {
     let slot = p.slot;
     let deltas = deltas_of(st, slot);
@@ -474,12 +444,9 @@ fn counts_of(
     let at = slot as usize;
     let basis = memo(st, p, NO_COUNTS);
     if same_basis(&memos[at], &basis) {
-        if same_row(&origins[at], &exps[at]) {
-            return counts_in(&memos[at]);
-        }
+        return counts_in(&memos[at]);
     }
     let counts = count_slot(fscod, st, exps, p);
-    keep_row(&mut origins[at], exps[at]);
     keep_memo(&mut memos[at], memo(st, p, counts));
     counts
 }
@@ -490,20 +457,19 @@ fn part_counts(
     st: AllocState,
     exps: &[[i16; 256]; 7],
     memos: &mut [[u32; 16]; 7],
-    origins: &mut [[i16; 256]; 7],
     quiet: bool,
     p: Part,
 ) -> Counts
     requires { ⌜ (fscod < 3) × SoundAlloc st × SoundExps (now exps) × SoundPart p ⌝ }
-    requires { ⌜ Kept fscod (now memos) (now origins) ⌝ }
+    requires { ⌜ Kept fscod (now memos) (now exps) ⌝ }
     ensures { λ r. ⌜ r ≡ countedAll noCounts (partPointers fscod st (now (exps .entry)) quiet p) ⌝ }
     ensures { λ r. ⌜ AtMost 253 r ⌝ }
-    ensures { λ _. ⌜ Kept fscod (now (memos .exit)) (now (origins .exit)) ⌝ }
+    ensures { λ _. ⌜ Kept fscod (now (memos .exit)) (now (exps .entry)) ⌝ }
 {
     if quiet {
         return NO_COUNTS;
     }
-    counts_of(fscod, st, exps, memos, origins, p)
+    counts_of(fscod, st, exps, memos, p)
 }
 
 // The mantissas of all slots in use.
@@ -512,21 +478,20 @@ fn count_parts(
     st: AllocState,
     exps: &[[i16; 256]; 7],
     memos: &mut [[u32; 16]; 7],
-    origins: &mut [[i16; 256]; 7],
     quiet: bool,
     ps: Parts,
 ) -> Counts
     requires { ⌜ (fscod < 3) × SoundAlloc st × SoundExps (now exps) × SoundParts ps ⌝ }
-    requires { ⌜ Kept fscod (now memos) (now origins) ⌝ }
+    requires { ⌜ Kept fscod (now memos) (now exps) ⌝ }
     ensures { λ r. ⌜ r ≡ countedAll noCounts (allPointers fscod st (now (exps .entry)) quiet (listed ps)) ⌝ }
     ensures { λ r. ⌜ AtMost (7 * 253) r ⌝ }
-    ensures { λ _. ⌜ Kept fscod (now (memos .exit)) (now (origins .exit)) ⌝ }
+    ensures { λ _. ⌜ Kept fscod (now (memos .exit)) (now (exps .entry)) ⌝ }
 {
     let mut counts = NO_COUNTS;
     let count = ps.count;
     for i in 0..count {
         let p = ps.list[i];
-        let more = part_counts(fscod, st, exps, memos, origins, quiet, p);
+        let more = part_counts(fscod, st, exps, memos, quiet, p);
         counts = add(counts, more);
     }
     counts
@@ -588,16 +553,15 @@ fn walk(
     st: AllocState,
     exps: &[[i16; 256]; 7],
     memos: &mut [[u32; 16]; 7],
-    origins: &mut [[i16; 256]; 7],
     quiet: bool,
     ps: Parts,
 ) -> Cursor
     requires { ⌜ (c .stop ≡ 0) × (fscod < 3) × SoundAlloc st × SoundExps (now exps) × SoundParts ps ⌝ }
-    requires { ⌜ Kept fscod (now memos) (now origins) ⌝ }
+    requires { ⌜ Kept fscod (now memos) (now exps) ⌝ }
     ensures { λ r. ⌜ r ≡ walked (widths noneOpen (allPointers fscod st (now (exps .entry)) quiet (listed ps))) c ⌝ }
-    ensures { λ _. ⌜ Kept fscod (now (memos .exit)) (now (origins .exit)) ⌝ }
+    ensures { λ _. ⌜ Kept fscod (now (memos .exit)) (now (exps .entry)) ⌝ }
 {
-    let counts = count_parts(fscod, st, exps, memos, origins, quiet, ps);
+    let counts = count_parts(fscod, st, exps, memos, quiet, ps);
     let end = c.at as u32 + width_of(counts);
     if end <= c.limit as u32 {
         return Cursor {
@@ -630,14 +594,13 @@ pub fn mantissas(
     st: AllocState,
     exps: &[[i16; 256]; 7],
     memos: &mut [[u32; 16]; 7],
-    origins: &mut [[i16; 256]; 7],
 ) -> MantissasRead
     requires { ⌜ (fscod < 3) × (nfchans ≤ 5) ⌝ }
     requires { ⌜ SoundCoupling coupling × SoundEnds ends ⌝ }
     requires { ⌜ SoundAlloc st × SoundExps (now exps) ⌝ }
-    requires { ⌜ Kept fscod (now memos) (now origins) ⌝ }
+    requires { ⌜ Kept fscod (now memos) (now exps) ⌝ }
     ensures { λ r. ⌜ ((s : List ℕ) → Reads (grammar.mantissas blk fscod nfchans lfeon coupling ends st (now (exps .entry))) s c (now (rows .entry)) (r .start) (r .cursor) (now (rows .exit))) ⌝ }
-    ensures { λ _. ⌜ Kept fscod (now (memos .exit)) (now (origins .exit)) ⌝ }
+    ensures { λ _. ⌜ Kept fscod (now (memos .exit)) (now (exps .entry)) ⌝ }
 {
     if c.stop != 0 {
         return MantissasRead {
@@ -656,7 +619,7 @@ pub fn mantissas(
         };
     }
     let start = known.at;
-    let walked = walk(known, fscod, st, exps, memos, origins, quiet, ps);
+    let walked = walk(known, fscod, st, exps, memos, quiet, ps);
     let cursor = syntax::close(
         rows,
         walked,

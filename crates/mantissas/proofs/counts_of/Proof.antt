@@ -11,32 +11,30 @@ use Rattle.mantissas.proofs.counts_of.Tie as tie
 
 looked-up : tie.Need-returns-2
 looked-up c =
-    let t2 = c .before .before .before in
-    let t3 = t2 .before .before .before .before in
+    let t3 = c .before .before .before in
     let t4 = t3 .before .before .before in
     let t5 = t4 .before .before .before in
     let s = t5 .before in
     let a = s .args in
     let is =
     c .counts-in .ensures
-    ∙ kept-counts (a .fscod) (a .st) (a .exps .now) (a .p) (rw (t5 .deltas-of .ensures .0) at (t4 .before .if1 .left)) (s .pre .0 .3 .end) (getD (a .memos .now) (a .p .slot) []) (getD (a .origins .now) (a .p .slot) []) (s .pre .1 .each (a .p .slot) (s .pre .0 .3 .slot))
-    (rw (t4 .memo .ensures) at (t3 .same-basis .ensures (t2 .before .before .before .if2 .taken))) (t2 .same-row .ensures (c .before .before .if3 .taken)) in
+    ∙ kept-counts (a .fscod) (a .st) (a .exps .now) (a .p) (rw (t5 .deltas-of .ensures .0) at (t4 .before .if1 .left)) (getD (a .memos .now) (a .p .slot) []) (s .pre .1 .each (a .p .slot) (s .pre .0 .3 .slot))
+    (rw (t4 .memo .ensures) at (t3 .same-basis .ensures (c .before .before .if2 .taken))) in
     (is, (rw is (pointers-at-most (a .fscod) (a .st) (a .exps .now) (a .p) (s .pre .0 .3 .end)), s .pre .1))
 
 counted-anew : tie.Need-returns-3
 counted-anew c =
     let t2 = c .before in
-    let t3 = t2 .before .before in
-    let t4 = t3 .before .before .before in
+    let t4 = t2 .before .before in
     let t6 = t4 .before .before .before .before .before in
     let t7 = t6 .before .before .before in
     let s = t7 .before in
     let a = s .args in
     let none = rw (t7 .deltas-of .ensures .0) at (t6 .before .if1 .left) in
     let counts = t4 .count-slot2 .ensures in
-    let kept = keeps (a .fscod) (a .p .slot) (a .memos .now) (a .origins .now) (memoOf (a .st) (a .p) (t4 .count-slot2 .result)) (getD (a .exps .now) (a .p .slot) []) (s .pre .0 .3 .slot) (s .pre .1)
-    (kept-new (a .fscod) (a .st) (a .exps .now) (a .p) none (s .pre .0 .3 .end) (t4 .count-slot2 .result) (counts .0)) in
-    (counts .0, (counts .1, rw (c .keep-memo .ensures, t2 .memo2 .ensures, t3 .keep-row .ensures) kept))
+    let kept = keeps (a .fscod) (a .p .slot) (a .memos .now) (a .exps .now) (memoOf (a .st) (a .p) (t4 .count-slot2 .result)) (s .pre .0 .3 .slot) (s .pre .1)
+    (kept-new (a .fscod) (a .st) (a .exps .now) (a .p) none (t4 .count-slot2 .result) (counts .0)) in
+    (counts .0, (counts .1, rw (c .keep-memo .ensures, t2 .memo2 .ensures) kept))
 
 pub counts-of-spec : {M : Type 1} → statement M
 counts-of-spec =
@@ -50,21 +48,11 @@ counts-of-spec =
     (λ c. search needs)  -- mul-same-basis
     (λ c. search needs)  -- index-1-same-basis
     (λ c κs. search needs)  -- same-basis-requires
-    (λ c. search needs)  -- mul-same-row
-    (λ c. search needs)  -- index-1-same-row
-    (λ c. search needs)  -- mul-same-row-2
-    (λ c. search needs)  -- index-1-same-row-2
-    (λ c κs. search needs)  -- same-row-requires
     (λ c. search needs)  -- mul-counts-in
     (λ c. search needs)  -- index-1-counts-in
     (λ c κs. search needs)  -- counts-in-requires
     looked-up
     (λ c κs. search needs)  -- count-slot-requires-2
-    (λ c. search needs)  -- mul-keep-row
-    (λ c. search needs)  -- index-1-keep-row
-    (λ c. search needs)  -- mul-keep-row-2
-    (λ c. search needs)  -- element-copy-out-keep-row
-    (λ c κs. search needs)  -- keep-row-requires
     (λ c. search needs)  -- mul-keep-memo
     (λ c. search needs)  -- index-1-keep-memo
     (λ c κs. search needs)  -- memo-requires-2

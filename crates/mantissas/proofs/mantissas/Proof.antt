@@ -23,26 +23,26 @@ refused c =
     let j = c .before .before in
     (λ s. then _ (judged (j .refuse-if .ensures) (judge (j .before))) (stopped (c .if2 .taken)), j .before .before .before .before .before .before .before .pre .1 .1 .1)
 
-walks : (c : tie.After-walk) → let j = c .before .before .before .before .before in
+walks : (c : tie.After-walk) → let j = c .before .before .before .before in
     let a = j .before .before .before .before .before .before .before .args in
     let ps = parts (a .nfchans) (a .lfeon) (a .coupling) (a .ends) in
     c .walk .result ≡ walked (widths noneOpen (allPointers (a .fscod) (a .st) (a .exps .now) (silent (a .st .offsets) ps) ps)) (j .refuse-if .result)
 walks c =
-    let q = c .before .before .before .before .before .before .before .before in
+    let q = c .before .before .before .before .before .before .before in
     rw (← quiet q, ← q .before .parts-in-use .ensures .0) (c .walk .ensures .0)
 
 walk-requires : tie.Need-walk-requires
 walk-requires c κs =
-    let p = c .before .before .before .before .before .before .before .before in
+    let p = c .before .before .before .before .before .before .before in
     let pre = p .before .before .before .pre in
-    ((c .before .before .if2 .left, pre .0 .0, pre .1 .1 .0 .0, pre .1 .1 .0 .1, p .parts-in-use .ensures .1), pre .1 .1 .1)
+    ((c .before .if2 .left, pre .0 .0, pre .1 .1 .0 .0, pre .1 .1 .0 .1, p .parts-in-use .ensures .1), pre .1 .1 .1)
 
 reads : tie.Need-returns-3
 unfolding mantissas
 reads c =
     let t = c .before in
     let w = t .before .before in
-    let j = w .before .before .before .before .before in (
+    let j = w .before .before .before .before in (
       λ s.
           then _ (judged (j .refuse-if .ensures) (judge (j .before)))
           (then _ standing

@@ -19,7 +19,7 @@ fits : tie.Need-returns
 fits c =
     let t2 = c .before .before in
     let t1 = t2 .before .before in
-    let s = t1 .before .before .before in
+    let s = t1 .before .before in
     let baps = allPointers (s .args .fscod) (s .args .st) (s .args .exps .now) (s .args .quiet) (listed (s .args .ps)) in
     let total : t2 .width-of .result ≡ sum (widths noneOpen baps) = rw (t2 .width-of .ensures, t1 .count-parts .ensures .0) (whole-width baps) in
     (rw (total, walked-fits (widths noneOpen baps) (s .args .c) (s .pre .0 .0) (omega (arith, total, c .if1 .taken))), t1 .count-parts .ensures .1 .1)

@@ -14,16 +14,16 @@ use Rattle.ac3.proofs.audio.audio.Statement.{statement}
 use Rattle.ac3.proofs.audio.audio.Tie as tie
 
 abbrev Inv-loop : tie.InvT-loop
-Inv-loop s rows₀ header exps₀ memos₀ origins₀ state₀ tally₀ cursor₀ blk₀ rows exps memos origins state tally cursor blk =
+Inv-loop s rows₀ header exps₀ memos₀ state₀ tally₀ cursor₀ blk₀ rows exps memos state tally cursor blk =
     Turns (audioBlock header) 0 6 unread s cursor₀ rows₀ blk (record { state = state; exps = exps; tally = tally }) cursor rows
-    × SoundState state × SoundExps exps × (tally .coupled ≤ blk) × Kept (header .fscod) memos origins
+    × SoundState state × SoundExps exps × (tally .coupled ≤ blk) × Kept (header .fscod) memos exps
 
 abbrev μ-loop : tie.MeasureT-loop
-μ-loop s rows₀ header exps₀ memos₀ origins₀ state₀ tally₀ cursor₀ blk₀ rows exps memos origins state tally cursor blk = 6 - blk
+μ-loop s rows₀ header exps₀ memos₀ state₀ tally₀ cursor₀ blk₀ rows exps memos state tally cursor blk = 6 - blk
 
 starts : tie.Need-loop-holds Inv-loop μ-loop
 starts c =
-    rw (c .before .unsent .ensures, c .uncounted .ensures) (begins, sound-state, sound-exps, omega arith, kept-none _)
+    rw (c .before .unsent .ensures, c .uncounted .ensures) (begins, sound-state, sound-exps, omega arith, kept-none _ _)
 
 early : tie.Need-returns Inv-loop μ-loop
 unfolding audio

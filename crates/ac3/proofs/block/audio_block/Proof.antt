@@ -2,6 +2,7 @@
 use native.Mathlib.Omega.{arith}
 use borrow.Author.Needs.{needs}
 use Rattle.syntax.proofs.Sequence.{then, finished, standing}
+use Rattle.mantissas.proofs.Kept.{kept-on}
 use Rattle.ac3.specs.AudioBlock.{channelFlags, audioBlock}
 use Rattle.ac3.proofs.block.audio_block.Statement.{statement}
 use Rattle.ac3.proofs.block.audio_block.Tie as tie
@@ -80,7 +81,7 @@ mantissas-requires c κs =
     let coupling = coupling-before strategies in
     let channels = channels-before coupling in
     let start = channels .before .before in
-    ((start .pre .1 .0 .fscod, channels .nfchans .ensures .1), ((coupling .coupling-strategy .ensures .1 .0, ends .channel-ends .ensures .1), ((alloc .alloc-state .ensures .1, exps .exponents .ensures .1), start .pre .1 .1 .1 .1)))
+    ((start .pre .1 .0 .fscod, channels .nfchans .ensures .1), ((coupling .coupling-strategy .ensures .1 .0, ends .channel-ends .ensures .1), ((alloc .alloc-state .ensures .1, exps .exponents .ensures .1 .0), kept-on (start .pre .1 .1 .1 .1) (exps .exponents .ensures .1 .1))))
 
 counted-requires : tie.Need-counted-requires
 counted-requires c κs =
@@ -134,7 +135,7 @@ reads c =
           bandwidths = t9 .bandwidths .ensures .1;
           alloc = t12 .alloc-state .ensures .1;
         },
-        (t11 .exponents .ensures .1, (t16 .counted .ensures .1, t14 .mantissas .ensures .1)),
+        (t11 .exponents .ensures .1 .0, (t16 .counted .ensures .1, t14 .mantissas .ensures .1)),
       ),
     )
 

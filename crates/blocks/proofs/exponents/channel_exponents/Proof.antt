@@ -8,7 +8,7 @@ use Rattle.blocks.proofs.exponents.channel_exponents.Tie as tie
 
 sound : tie.Need-slot-exponents-requires
 sound c κs =
-    let pre = c .before .before .before .pre in
+    let pre = c .before .before .before .before .pre in
     (omega arith, ((pre .0 .1 .0 _, (omega arith, pre .0 .1 .1 _)), pre .1))
 
 reads : tie.Need-returns

@@ -1,6 +1,7 @@
 -- `blocks::exponents::slot_exponents_if` meets its contract: the test says which of the two `readIf` is. Assumes nothing.
 use borrow.Author.Needs.{needs}
 use Rattle.syntax.proofs.Sequence.{finished}
+use Rattle.blocks.proofs.Forgotten.{stays}
 use Rattle.blocks.proofs.exponents.slot_exponents_if.Statement.{statement}
 use Rattle.blocks.proofs.exponents.slot_exponents_if.Tie as tie
 
@@ -10,5 +11,5 @@ slot-exponents-if-spec =
     (tie.spec
     (λ c κs. search needs)  -- slot-exponents-requires
     (λ c. search needs)  -- same-length
-    (λ c. let t = c .before in rw (t .before .before .before .if1 .taken) (t .slot-exponents .ensures))  -- returns
-    (λ c. (rw (c .if1 .left) finished, c .before .before .pre .1 .1)))  -- returns-2
+    (λ c. let t = c .before in rw (t .before .before .before .before .if1 .taken) (t .slot-exponents .ensures))  -- returns
+    (λ c. (rw (c .if1 .left) finished, (c .before .before .pre .1 .1, stays))))  -- returns-2

@@ -32,7 +32,7 @@ early c = then _ (leaves (c .before .before .before .loop .inv .0) (c .if1 .take
 again : tie.Need-loop-again Inv-loop μ-loop
 again c =
     let t = c .before .before .before .before in
-    let test = t .before .before .before .before .before .before .before in
+    let test = t .before .before .before .before .before .before in
     let after = t .audio-block .ensures in
     (turn (test .before .loop .inv .0) (test .loop-test .taken) (after .0), after .1 .0, after .1 .1 .0, after .1 .1 .1 .0, after .1 .1 .1 .1)
 
@@ -52,7 +52,7 @@ audio-spec =
     (λ c. early c .long)  -- same-length
     early
     (λ c κs.
-    let test = c .before .before .before .before .before .before in
+    let test = c .before .before .before .before .before in
     let inv = test .before .loop .inv in
     ((test .loop-test .taken, inv .3), (test .before .before .before .before .before .pre, (inv .1, (inv .2, inv .4)))))  -- audio-block-requires
     (λ c. search needs)  -- add-blk

@@ -9,7 +9,7 @@ use Rattle.ac3.proofs.block.audio_block.Tie as tie
 
 -- the way back from a call to the one before it whose bounds are needed
 abbrev ends-before : tie.After-alloc-state → tie.After-channel-ends
-ends-before c = c .before .before .before .before .before .before .before .before .before
+ends-before c = c .before .before .before .before .before .before .before .before .before .before
 
 abbrev strategies-before : tie.After-channel-ends → tie.After-exponent-strategies
 strategies-before c = c .before .before .before .before .before .before .before .before
@@ -56,7 +56,7 @@ channel-ends-requires c κs =
 
 exponents-requires : tie.Need-exponents-requires
 exponents-requires c κs =
-    let ends = c .before .before .before .before in
+    let ends = c .before .before .before .before .before in
     let strategies = strategies-before ends in
     let coupling = coupling-before strategies in
     let channels = channels-before coupling in
@@ -65,7 +65,7 @@ exponents-requires c κs =
 
 alloc-state-requires : tie.Need-alloc-state-requires
 alloc-state-requires c κs =
-    let ends = c .before .before .before .before .before .before .before .before in
+    let ends = c .before .before .before .before .before .before .before .before .before in
     let strategies = strategies-before ends in
     let coupling = coupling-before strategies in
     let channels = channels-before coupling in
@@ -74,9 +74,9 @@ alloc-state-requires c κs =
 
 mantissas-requires : tie.Need-mantissas-requires
 mantissas-requires c κs =
-    let alloc = c .before .before .before .before .before .before .before .before .before in
+    let alloc = c .before .before .before .before .before .before .before .before in
     let exps = alloc .before .before .before .before in
-    let ends = exps .before .before .before .before .before in
+    let ends = exps .before .before .before .before .before .before in
     let strategies = strategies-before ends in
     let coupling = coupling-before strategies in
     let channels = channels-before coupling in
@@ -85,7 +85,7 @@ mantissas-requires c κs =
 
 counted-requires : tie.Need-counted-requires
 counted-requires c κs =
-    let alloc = c .before .before .before .before .before .before .before .before .before .before .before .before .before .before .before in
+    let alloc = c .before .before .before .before .before .before .before .before .before .before .before .before .before .before in
     let ends = ends-before alloc in
     let strategies = strategies-before ends in
     let coupling = coupling-before strategies in
@@ -99,10 +99,10 @@ reads c =
     let t16 = c in
     let t15 = t16 .before in
     let t14 = t15 .before .before .before .before .before in
-    let t13 = t14 .before .before .before .before .before .before in
+    let t13 = t14 .before .before .before .before .before in
     let t12 = t13 .before .before .before .before in
     let t11 = t12 .before .before .before .before in
-    let t10 = t11 .before .before .before .before .before in
+    let t10 = t11 .before .before .before .before .before .before in
     let t9 = t10 .before .before .before in
     let t8 = t9 .before .before .before .before .before in
     let t7 = t8 .before .before .before in

@@ -10,7 +10,7 @@ use Rattle.syntax.specs.Grammar.{Grammar, done, refuse, field, free, span, walk
 use Rattle.syntax.specs.Names as Name
 use Rattle.syntax.specs.Run.{steering, past, judged, Check, clear, stop, Spot, Result, unless, roomCheck, check, run, rowsOf, parse}
 use Rattle.blocks.specs.Delta.{deltaCode, channelCode, segment, newDeltas, slotDeltas, codedDeltas, deltas}
-use Rattle.blocks.specs.Exponents.{Unpacked, Exponents, step, group, firstName, groupName, exponentSet, slotExponents, channelExponents, exponents}
+use Rattle.exponents.specs.Exponents.{Unpacked, Exponents, step, group, firstName, groupName, exponentSet, slotExponents, channelExponents, exponents}
 use Rattle.mantissas.specs.Mantissas.{mantissas}
 use Rattle.blocks.specs.Parameters.{newCurve, curve, fineOffset, channelOffset, newOffsets, offsets, newLeak, couplingLeak}
 use Rattle.blocks.specs.Slots.{CPL, LFE}

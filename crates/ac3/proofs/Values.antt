@@ -7,7 +7,7 @@ use Rattle.signed.specs.Level.{pick}
 use Rattle.alloc.specs.Alloc.{logadd, snrOffset, bandOf}
 use Rattle.alloc.specs.Delta.{deltaOf}
 use Rattle.bits.specs.Bits.{value, bitAt}
-use Rattle.blocks.specs.Exponents.{group, step}
+use Rattle.exponents.specs.Exponents.{group, step}
 use Rattle.mantissas.specs.Mantissas.{widths}
 use Rattle.syntax.specs.Grammar.{_>>=_}
 use Rattle.syntax.specs.Run.{sum, run, unless, roomCheck, check}

@@ -8,7 +8,7 @@ use lib.ListN.{replicate}
 use Rattle.alloc.specs.Alloc.{logadd, snrOffset, bandOf}
 use Rattle.alloc.specs.Delta.{deltaOf}
 use Rattle.bits.specs.Bits.{value}
-use Rattle.blocks.specs.Exponents.{Unpacked, group, groupCount}
+use Rattle.exponents.specs.Exponents.{Unpacked, group, groupCount}
 use Rattle.mantissas.specs.Mantissas.{noneOpen, widths}
 use Rattle.blocks.specs.Slots.{subBands, rangeEmpty, firstCoupled, pastCoupled, pastChannel}
 use Rattle.syntax.specs.Grammar.{_>>=_, _>>_, plain, framed}

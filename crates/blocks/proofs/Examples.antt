@@ -3,14 +3,11 @@ use mathlib.Core.Bool.{false}
 use mathlib.Core.List.{List, [], _∷_, map}
 use mathlib.Core.Path.{_≡_, refl}
 use Prim.Native.Nat.{ℕ}
-use lib.IntN.{pos}
 use lib.ListN.{replicate}
 use Rattle.bits.specs.Bits.{bitAt, value}
 use Rattle.syntax.specs.Grammar.{Grammar, _>>=_, _>>_, turns, framed}
 use Rattle.syntax.specs.Run.{Spot, End, reached, refused, run, parse, unless, roomCheck, check}
 use Rattle.blocks.specs.Delta.{noDeltas, deltas, codedDeltas, channelCode, deltaCode, slotDeltas, newDeltas, segment}
-use Rattle.blocks.specs.Exponents.{exponentSet, group, step}
-use Rattle.blocks.specs.Slots.{CPL}
 use Rattle.blocks.specs.declared.Deltas.{Deltas}
 
 -- how a section ends on some bytes, with room enough
@@ -39,8 +36,3 @@ codes = refl
 reuse-in-block-0 : ending (deltas 0 1 false one-segment) (0x80 ∷ replicate 3 0) ≡ refused 18
 unfolding ending deltas codedDeltas channelCode deltaCode slotDeltas turns _>>=_ run unless roomCheck check value bitAt
 reuse-in-block-0 = refl
-
--- the coupling start value 13, doubled to 26, is not judged: a group of -2 0 0 makes 24 24 24 (group 2 * 5 + 2 = 12)
-doubled-start : ending (exponentSet 0 CPL 1 0 3) (0xD1 ∷ 0x80 ∷ 0 ∷ 0 ∷ []) ≡ reached (pos 24 ∷ pos 24 ∷ pos 24 ∷ replicate 253 (pos 0))
-unfolding ending exponentSet group step turns _>>=_ run unless roomCheck check value bitAt
-doubled-start = refl

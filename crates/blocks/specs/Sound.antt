@@ -6,7 +6,6 @@ use lib.IntN.{ℤ, pos}
 use lib.ListN.{getD}
 use Rattle.alloc.specs.Steps.{Exponents}
 use Rattle.blocks.specs.Delta.{noDeltas}
-use Rattle.blocks.specs.Exponents.{Unpacked}
 use Rattle.blocks.specs.declared.AllocState.{AllocState}
 use Rattle.blocks.specs.declared.Coupling.{Coupling}
 use Rattle.blocks.specs.declared.CouplingLeak.{CouplingLeak}
@@ -71,8 +70,3 @@ SoundRow = Exponents
 
 abbrev pub SoundExps : List (List ℤ) → Type 0
 SoundExps exps = (slot : ℕ) → SoundRow (getD exps slot [])
-
--- a set while it is read
-pub record SoundUnpacked (u : Unpacked) : Type 0 where
-  pub last : u .last < 32
-  pub row : SoundRow (u .row)

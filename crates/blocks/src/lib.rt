@@ -1,7 +1,6 @@
 // The machinery of an audio block (4.3.3): exponents, bit allocation and mantissas, with what a block leaves to the next one.
 // Slots: full bandwidth channels 0 to 4, coupling 5, LFE 6.
 pub mod delta;
-pub mod exponents;
 pub mod parameters;
 
 ghost use mathlib.Core.Path.{_≡_};
@@ -12,7 +11,7 @@ pub const CPL: u8 = 5;
 
 pub const LFE: u8 = 6;
 
-// The first bin of the coupling range, and the first bin past it. (The first is public: the crate above ends coupled channels there.)
+// The first bin of the coupling range, and the first bin past it. (Public for the crates above: exponents, and the ends of coupled channels.)
 pub fn first_coupled(cplbegf: usize) -> usize
     requires { ⌜ cplbegf < 16 ⌝ }
     ensures { λ r. ⌜ r ≡ slots.firstCoupled cplbegf ⌝ }
@@ -20,7 +19,7 @@ pub fn first_coupled(cplbegf: usize) -> usize
     37 + 12 * cplbegf
 }
 
-fn past_coupled(cplendf: usize) -> usize
+pub fn past_coupled(cplendf: usize) -> usize
     requires { ⌜ cplendf < 16 ⌝ }
     ensures { λ r. ⌜ r ≡ slots.pastCoupled cplendf ⌝ }
 {

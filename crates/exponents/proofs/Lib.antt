@@ -1,0 +1,5 @@
+pub mod Forgotten
+pub mod Bins
+pub mod AtHand
+pub mod Three
+pub mod Examples

@@ -1,0 +1,3 @@
+pub mod Exponents
+pub mod AtHand
+pub mod Sound

@@ -43,7 +43,7 @@ def expected(answer, data, room, summary):
 def unfoldable():
     """All that a listing computes with, as module: names."""
     found = {}
-    for crate in ("bits", "syntax", "tables", "alloc", "blocks", "exponents", "mantissas", "ac3"):
+    for crate in ("bits", "syntax", "tables", "alloc", "blocks", "exponents", "mantissas", "header", "channels", "ac3"):
         own = "ac3·specs.specs" if crate == "ac3" else f"{crate}.specs"
         for path in sorted(glob.glob(f"{ROOT}/crates/{crate}/specs/*.antt")):
             names = re.findall(r"^\s*unfoldable pub (\S+) :", open(path).read(), re.M)

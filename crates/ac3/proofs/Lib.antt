@@ -5,10 +5,6 @@ pub mod Editing
 pub mod Promise
 pub mod Example
 pub mod Tried
-pub mod Under
-pub mod Going
-pub mod Rate
-pub mod Bounds
-pub mod Listed
+pub mod Sent
 pub mod Start
 pub mod Told

@@ -22,13 +22,13 @@ use Rattle.blocks.specs.declared.Deltas.{Deltas}
 use Rattle.blocks.specs.declared.Offsets.{Offsets}
 use Rattle.blocks.specs.declared.Strategies.{Strategies}
 use Rattle.ac3.specs.AudioBlock.{Carry, channelFlags, dynamicRange, skipField, allocState, audioBlock}
-use Rattle.ac3.specs.Coupling.{coupledChannels, joined, couplingBands, newCoupling, couplingStrategy, coordinate, channelCoordinates, phaseFlags, couplingCoordinates, rematrixing}
+use Rattle.channels.specs.Coupling.{coupledChannels, joined, couplingBands, newCoupling, couplingStrategy, coordinate, channelCoordinates, phaseFlags, couplingCoordinates, rematrixing}
 use Rattle.ac3.specs.Frame.{audio, syncframe}
-use Rattle.ac3.specs.Header.{syncinfo, programmes, programmeInfo, alternateInfo, timeCodes, additionalInfo, bsi, header}
+use Rattle.header.specs.Header.{syncinfo, programmes, programmeInfo, alternateInfo, timeCodes, additionalInfo, bsi, header}
 use Rattle.ac3.specs.Marked.{kindFits, KindsFit, numberFits, StopFits, EndFits, Marked, m-done, m-refuse, m-field, m-free, m-span, m-walk, m-frame, m-here}
-use Rattle.ac3.specs.Strategies.{channelStrategies, exponentStrategies, bandwidth, bandwidths, channelEnd, channelEnds}
-use Rattle.ac3.specs.declared.Bandwidths.{Bandwidths}
-use Rattle.ac3.specs.declared.Header.{Header}
+use Rattle.channels.specs.Strategies.{channelStrategies, exponentStrategies, bandwidth, bandwidths, channelEnd, channelEnds}
+use Rattle.channels.specs.declared.Bandwidths.{Bandwidths}
+use Rattle.header.specs.declared.Header.{Header}
 
 module _ {A B : Type 0} where
   m-bind : {g : Grammar A} {f : A → Grammar B} → Marked g → ((a : A) → Marked (f a)) → Marked (g >>= f)

@@ -4,7 +4,7 @@ use Rattle.blocks.specs.Sound.{SoundExps}
 use Rattle.blocks.proofs.Entries.{exps-none, deltas-none}
 use Rattle.ac3.specs.Frame.{unsent, unread}
 use Rattle.ac3.specs.Sound.{SoundState}
-use Rattle.ac3.proofs.Bounds.{zeros}
+use Rattle.channels.proofs.Bounds.{zeros}
 
 pub sound-exps : SoundExps (unread .exps)
 sound-exps = exps-none

@@ -9,7 +9,7 @@ use Rattle.syntax.specs.Grammar.{_>>=_}
 use Rattle.syntax.specs.Place.{except, exec, fresh}
 use Rattle.syntax.specs.Reads.{from, Reads}
 use Rattle.syntax.proofs.Whole.{begun}
-use Rattle.ac3.specs.Header.{syncinfo, header}
+use Rattle.header.specs.Header.{syncinfo, header}
 use Rattle.ac3.specs.Frame.{Audio, syncframe, summaryOf, noSummary, answered}
 
 module _ {s : List ℕ} {room after : List ℤ} {a : Audio} {d : Cursor} (r : Reads syncframe s begun room a d after) where

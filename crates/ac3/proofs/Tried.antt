@@ -20,12 +20,12 @@ use Rattle.blocks.specs.Parameters.{newCurve, curve, fineOffset, channelOffset,
 use Rattle.exponents.specs.Exponents.{step, group, exponentSet, slotExponents, channelExponents, exponents}
 use Rattle.mantissas.specs.Mantissas.{silent, pointers, allPointers, widths, mantissas}
 use Rattle.mantissas.specs.Parts.{channelParts, parts}
+use Rattle.header.specs.Header.{syncinfo, programmeInfo, alternateInfo, timeCodes, additionalInfo, bsi, header}
+use Rattle.channels.specs.Coupling.{howMany, coupledChannels, joined, couplingBands, newCoupling, couplingStrategy, coordinate, channelCoordinates, phaseFlags, couplingCoordinates, rematrixing}
+use Rattle.channels.specs.Strategies.{channelStrategies, exponentStrategies, bandwidth, bandwidths, channelEnd, channelEnds}
 use Rattle.ac3.specs.AudioBlock.{channelFlags, dynamicRange, skipField, allocState, allSent, audioBlock}
-use Rattle.ac3.specs.Coupling.{howMany, coupledChannels, joined, couplingBands, newCoupling, couplingStrategy, coordinate, channelCoordinates, phaseFlags, couplingCoordinates, rematrixing}
 use Rattle.ac3.specs.Frame.{audio, syncframe, answered}
-use Rattle.ac3.specs.Header.{syncinfo, programmeInfo, alternateInfo, timeCodes, additionalInfo, bsi, header}
 use Rattle.ac3.specs.Listing.{bytes, plusOne, checksum, verdict, short}
-use Rattle.ac3.specs.Strategies.{channelStrategies, exponentStrategies, bandwidth, bandwidths, channelEnd, channelEnds}
 use Rattle.ac3.specs.Listing.{listing}
 
 -- ffmpeg, 2/0, 48 kHz, coupling in every block
@@ -328,7 +328,7 @@ accepted :
     × (listing 2048 widest ≡ 207 ∷ 1088 ∷ 137433663604931848 ∷ 0 ∷ 138 ∷ 5 ∷ 1 ∷ 0 ∷ 1 ∷ 0 ∷ 100 ∷ 269 ∷ 458 ∷ 545 ∷ 684 ∷ 1046 ∷ 269 ∷ 458 ∷ 545 ∷ 580 ∷ 1046 ∷ 1088 ∷ 1 ∷ [])
     × (listing 2048 other-names-1 ≡ 563 ∷ 2776 ∷ 1825383984366266164 ∷ 0 ∷ 348 ∷ 6 ∷ 0 ∷ 0 ∷ 1 ∷ 6 ∷ 147 ∷ 1544 ∷ 1604 ∷ 1712 ∷ 1949 ∷ 2596 ∷ 1544 ∷ 1604 ∷ 1712 ∷ 1949 ∷ 2596 ∷ 2776 ∷ 0 ∷ [])
     × (listing 2048 deltas-stay ≡ 150 ∷ 1098 ∷ 1199251214092976941 ∷ 0 ∷ 138 ∷ 8 ∷ 1 ∷ 0 ∷ 1 ∷ 0 ∷ 138 ∷ 817 ∷ 850 ∷ 892 ∷ 926 ∷ 1044 ∷ 802 ∷ 835 ∷ 877 ∷ 911 ∷ 1009 ∷ 1063 ∷ 1 ∷ [])
-unfolding bitAt value bitsBefore sameBits rangeEq _>>=_ turns shown except exec andThen flatten landing finish Reads-from walked roomCheck check sum unless run continue nfchans words48 words44 frameBytes slowDecay fastDecay slowGain knee floor fastGain bandEnd logAdd hearing bap bapBits logadd lowcomp snrOffset level kept threshold addressOf bapOf bandSum bandOf startOf endOf bandLevel lowAfter rises fallTo overKnee maskOf deltaOf passed deltaIn deltaSum startLeak fallBy fallLeak leakStep leakAfter fallAfter Listed-from table excitations pointerList relative stepOf addressFrom stepAt deltaCode channelCode segment newDeltas slotDeltas codedDeltas deltas newCurve curve fineOffset channelOffset newOffsets offsets newLeak couplingLeak step group exponentSet slotExponents channelExponents exponents silent pointers allPointers widths mantissas channelParts parts channelFlags dynamicRange skipField allocState allSent audioBlock howMany coupledChannels joined couplingBands newCoupling couplingStrategy coordinate channelCoordinates phaseFlags couplingCoordinates rematrixing audio syncframe answered syncinfo programmeInfo alternateInfo timeCodes additionalInfo bsi header bytes plusOne checksum verdict short channelStrategies exponentStrategies bandwidth bandwidths channelEnd channelEnds
+unfolding bitAt value bitsBefore sameBits rangeEq _>>=_ turns shown except exec andThen flatten landing finish Reads-from walked roomCheck check sum unless run continue nfchans words48 words44 frameBytes slowDecay fastDecay slowGain knee floor fastGain bandEnd logAdd hearing bap bapBits logadd lowcomp snrOffset level kept threshold addressOf bapOf bandSum bandOf startOf endOf bandLevel lowAfter rises fallTo overKnee maskOf deltaOf passed deltaIn deltaSum startLeak fallBy fallLeak leakStep leakAfter fallAfter Listed-from table excitations pointerList relative stepOf addressFrom stepAt deltaCode channelCode segment newDeltas slotDeltas codedDeltas deltas newCurve curve fineOffset channelOffset newOffsets offsets newLeak couplingLeak step group exponentSet slotExponents channelExponents exponents silent pointers allPointers widths mantissas channelParts parts syncinfo programmeInfo alternateInfo timeCodes additionalInfo bsi header howMany coupledChannels joined couplingBands newCoupling couplingStrategy coordinate channelCoordinates phaseFlags couplingCoordinates rematrixing channelStrategies exponentStrategies bandwidth bandwidths channelEnd channelEnds channelFlags dynamicRange skipField allocState allSent audioBlock audio syncframe answered bytes plusOne checksum verdict short
 accepted = (refl, refl, refl, refl, refl, refl, refl, refl, refl, refl, refl, refl, refl, refl, refl, refl, refl, refl)
 
 refused :
@@ -358,5 +358,5 @@ refused :
     × (listing 2048 refusal-18 ≡ 44 ∷ 155 ∷ 1939675474280980748 ∷ 18 ∷ [])
     × (listing 2048 refusal-19 ≡ 44 ∷ 155 ∷ 1757649603618528351 ∷ 19 ∷ [])
     × (listing 2048 refusal-20 ≡ 103 ∷ 398 ∷ 622370867021432412 ∷ 20 ∷ [])
-unfolding bitAt value bitsBefore sameBits rangeEq _>>=_ turns shown except exec andThen flatten landing finish Reads-from walked roomCheck check sum unless run continue nfchans words48 words44 frameBytes slowDecay fastDecay slowGain knee floor fastGain bandEnd logAdd hearing bap bapBits logadd lowcomp snrOffset level kept threshold addressOf bapOf bandSum bandOf startOf endOf bandLevel lowAfter rises fallTo overKnee maskOf deltaOf passed deltaIn deltaSum startLeak fallBy fallLeak leakStep leakAfter fallAfter Listed-from table excitations pointerList relative stepOf addressFrom stepAt deltaCode channelCode segment newDeltas slotDeltas codedDeltas deltas newCurve curve fineOffset channelOffset newOffsets offsets newLeak couplingLeak step group exponentSet slotExponents channelExponents exponents silent pointers allPointers widths mantissas channelParts parts channelFlags dynamicRange skipField allocState allSent audioBlock howMany coupledChannels joined couplingBands newCoupling couplingStrategy coordinate channelCoordinates phaseFlags couplingCoordinates rematrixing audio syncframe answered syncinfo programmeInfo alternateInfo timeCodes additionalInfo bsi header bytes plusOne checksum verdict short channelStrategies exponentStrategies bandwidth bandwidths channelEnd channelEnds
+unfolding bitAt value bitsBefore sameBits rangeEq _>>=_ turns shown except exec andThen flatten landing finish Reads-from walked roomCheck check sum unless run continue nfchans words48 words44 frameBytes slowDecay fastDecay slowGain knee floor fastGain bandEnd logAdd hearing bap bapBits logadd lowcomp snrOffset level kept threshold addressOf bapOf bandSum bandOf startOf endOf bandLevel lowAfter rises fallTo overKnee maskOf deltaOf passed deltaIn deltaSum startLeak fallBy fallLeak leakStep leakAfter fallAfter Listed-from table excitations pointerList relative stepOf addressFrom stepAt deltaCode channelCode segment newDeltas slotDeltas codedDeltas deltas newCurve curve fineOffset channelOffset newOffsets offsets newLeak couplingLeak step group exponentSet slotExponents channelExponents exponents silent pointers allPointers widths mantissas channelParts parts syncinfo programmeInfo alternateInfo timeCodes additionalInfo bsi header howMany coupledChannels joined couplingBands newCoupling couplingStrategy coordinate channelCoordinates phaseFlags couplingCoordinates rematrixing channelStrategies exponentStrategies bandwidth bandwidths channelEnd channelEnds channelFlags dynamicRange skipField allocState allSent audioBlock audio syncframe answered bytes plusOne checksum verdict short
 refused = (refl, refl, refl, refl, refl, refl, refl, refl, refl, refl, refl, refl, refl, refl, refl, refl, refl, refl, refl, refl, refl, refl, refl, refl, refl, refl)

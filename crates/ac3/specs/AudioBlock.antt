@@ -14,10 +14,10 @@ use Rattle.blocks.specs.Delta.{deltas}
 use Rattle.exponents.specs.Exponents.{Exponents, exponents}
 use Rattle.mantissas.specs.Mantissas.{mantissas}
 use Rattle.blocks.specs.Parameters.{curve, offsets, couplingLeak}
-use Rattle.ac3.specs.Coupling.{couplingStrategy, couplingCoordinates, rematrixing}
-use Rattle.ac3.specs.Header.{programmes}
-use Rattle.ac3.specs.Strategies.{exponentStrategies, bandwidths, channelEnds}
-use Rattle.ac3.specs.declared.Header.{Header}
+use Rattle.channels.specs.Coupling.{couplingStrategy, couplingCoordinates, rematrixing}
+use Rattle.header.specs.Header.{programmes}
+use Rattle.channels.specs.Strategies.{exponentStrategies, bandwidths, channelEnds}
+use Rattle.header.specs.declared.Header.{Header}
 use Rattle.ac3.specs.declared.State.{State}
 use Rattle.ac3.specs.declared.Tally.{Tally}
 

@@ -1,6 +1,3 @@
-pub mod Header
-pub mod Coupling
-pub mod Strategies
 pub mod AudioBlock
 pub mod Frame
 pub mod Marked

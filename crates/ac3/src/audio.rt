@@ -1,6 +1,4 @@
 // The six blocks of a frame.
-use crate::Bandwidths;
-use crate::Header;
 use crate::State;
 use crate::Tally;
 use crate::block::audio_block;
@@ -11,12 +9,15 @@ use blocks::Cover;
 use blocks::Curve;
 use blocks::Deltas;
 use blocks::Offsets;
+use channels::Bandwidths;
+use header::Header;
 use syntax::Cursor;
 ghost use mathlib.Core.Path.{_≡_};
 ghost use Prim.Native.Nat.{_+_, _<_, _≤_};
 ghost use Rattle.syntax.specs.Reads.{Reads};
 ghost use Rattle.ac3.specs.Frame as grammar;
-ghost use Rattle.ac3.specs.Sound.{SoundHeader, SoundState};
+ghost use Rattle.ac3.specs.Sound.{SoundState};
+ghost use Rattle.header.specs.Sound.{SoundHeader};
 
 // Nothing was sent yet.
 fn unsent() -> State

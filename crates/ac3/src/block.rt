@@ -1,26 +1,26 @@
 // audblk (4.3.3): the sections of a block in the order of the syntax table.
-use crate::Header;
 use crate::State;
 use crate::Tally;
-use crate::coupling::coupling_coordinates;
-use crate::coupling::coupling_strategy;
-use crate::coupling::rematrixing;
-use crate::elements::and_not;
-use crate::elements::flags;
-use crate::elements::roled;
-use crate::info::programmes;
-use crate::strategies::bandwidths;
-use crate::strategies::channel_ends;
-use crate::strategies::exponent_strategies;
 use blocks::AllocState;
 use blocks::delta::deltas;
 use blocks::parameters::coupling_leak;
 use blocks::parameters::curve;
 use blocks::parameters::offsets;
+use channels::coupling::coupling_coordinates;
+use channels::coupling::coupling_strategy;
+use channels::coupling::rematrixing;
+use channels::strategies::bandwidths;
+use channels::strategies::channel_ends;
+use channels::strategies::exponent_strategies;
 use exponents::exponents;
+use header::Header;
+use header::info::programmes;
 use mantissas::mantissas;
 use syntax::Cursor;
 use syntax::Role;
+use syntax::elements::and_not;
+use syntax::elements::flags;
+use syntax::elements::roled;
 use syntax::names::*;
 ghost use mathlib.Core.List.{List};
 ghost use mathlib.Core.Path.{_≡_};
@@ -30,8 +30,9 @@ ghost use Rattle.syntax.specs.Reads.{Reads};
 ghost use Rattle.blocks.specs.Sound.{SoundAlloc, SoundExps};
 ghost use Rattle.mantissas.specs.Kept.{Kept};
 ghost use Rattle.ac3.specs.AudioBlock as grammar;
-ghost use Rattle.ac3.specs.Header as header;
-ghost use Rattle.ac3.specs.Sound.{SoundHeader, SoundState};
+ghost use Rattle.header.specs.Header as header;
+ghost use Rattle.ac3.specs.Sound.{SoundState};
+ghost use Rattle.header.specs.Sound.{SoundHeader};
 
 // Dynamic range: the second programme's names stand two further on.
 fn dynamic_range(s: &[u8], rows: &mut [i32], c: Cursor, blk: u8, p: u8) -> Cursor

@@ -1,34 +1,18 @@
 // The AC-3 syncframe as far as the end of its audio: syncinfo, bsi and six audio blocks.
 mod audio;
 mod block;
-mod coupling;
-mod elements;
-mod info;
-mod strategies;
 
 use blocks::AllocState;
 use blocks::Coupling;
 use blocks::Cover;
+use channels::Bandwidths;
+use header::Header;
+use header::info;
 use syntax::Cursor;
 use syntax::START;
 ghost use mathlib.Core.Path.{_≡_};
 ghost use Rattle.syntax.specs.Place.{exec, fresh};
 ghost use Rattle.ac3.specs.Frame as grammar;
-
-// What a frame's header says of its blocks.
-pub struct Header {
-    pub bytes: u16,
-    pub fscod: u8,
-    pub bsid: u8,
-    pub acmod: u8,
-    pub lfeon: bool,
-}
-
-// The bandwidths in force: a channel's code counts once it was sent.
-pub struct Bandwidths {
-    pub sent: [bool; 5],
-    pub chbwcod: [usize; 5],
-}
 
 // All that a block leaves to the next one, besides the exponents.
 pub struct State {

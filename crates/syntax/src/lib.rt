@@ -1,6 +1,7 @@
 // Reads the elements of a syncframe one after the other, and records each as a row of eight numbers in the rows that the
 // caller lends. A cursor that stopped at a refusal passes through every later reader unchanged, so that the code of a
 // syntax table is the table: one call for each line.
+pub mod elements;
 pub mod names;
 
 ghost use mathlib.Core.Path.{_≡_};

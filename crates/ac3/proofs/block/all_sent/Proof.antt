@@ -2,7 +2,7 @@
 use Prim.Native.Nat.{_-_}
 use mathlib.Core.Path.{sym, _∙_}
 use borrow.Author.Needs.{needs}
-use Rattle.ac3.proofs.Listed.{SentBefore, none-before, sent-more, sent-fails, sent-all}
+use Rattle.ac3.proofs.Sent.{SentBefore, none-before, sent-more, sent-fails, sent-all}
 use Rattle.ac3.proofs.block.all_sent.Statement.{statement}
 use Rattle.ac3.proofs.block.all_sent.Tie as tie
 

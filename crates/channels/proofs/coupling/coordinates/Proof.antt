@@ -1,0 +1,39 @@
+-- `channels::coupling::coordinates` meets its contract: the invariant says which bands are left. Assumes nothing.
+use Prim.Native.Nat.{_-_}
+use borrow.Author.Needs.{needs}
+use Rattle.syntax.proofs.Sequence.{Turns, begins, turn, ends, then}
+use Rattle.channels.specs.Coupling.{coordinate}
+use Rattle.channels.proofs.coupling.coordinates.Statement.{statement}
+use Rattle.channels.proofs.coupling.coordinates.Tie as tie
+
+abbrev Inv-loop : tie.InvT-loop
+Inv-loop s rows₀ blk ch ncplbnd cursor₀ bnd₀ rows cursor bnd = Turns (λ i _. coordinate blk ch i) 0 ncplbnd tt s cursor₀ rows₀ bnd tt cursor rows
+
+abbrev μ-loop : tie.MeasureT-loop
+μ-loop s rows₀ blk ch ncplbnd cursor₀ bnd₀ rows cursor bnd = ncplbnd - bnd
+
+again : tie.Need-loop-again Inv-loop μ-loop
+unfolding coordinate
+again c =
+    let t2 = c .before in
+    let t1 = t2 .before .before .before in
+    let test = t1 .before .before in
+    turn (test .before .loop .inv) (test .loop-test .taken) (then _ (t1 .note-nth .ensures) (t2 .note-nth2 .ensures))
+
+reads : tie.Need-returns Inv-loop μ-loop
+reads c = ends (c .before .loop .inv) (c .loop-test .left)
+
+pub coordinates-spec : {M : Type 1} → statement M
+coordinates-spec =
+    tie.close
+    (tie.spec
+    Inv-loop
+    μ-loop
+    (λ c. begins)  -- loop-holds
+    (λ c κs. search needs)  -- note-nth-requires
+    (λ c κs. search needs)  -- note-nth-requires-2
+    (λ c. search needs)  -- add--bnd
+    (λ c. search needs)  -- loop-less
+    again
+    (λ c. reads c .long)  -- same-length
+    reads)

@@ -1,0 +1,3 @@
+pub mod Coupling
+pub mod Strategies
+pub mod Sound

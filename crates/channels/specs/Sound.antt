@@ -1,0 +1,14 @@
+-- What bounds the values that are carried from block to block. Contracts cite it, so that the code's indexes and sums are in range; the definition
+-- does without.
+use Prim.Native.Nat.{_≤_}
+use Rattle.blocks.specs.declared.Coupling.{Coupling}
+use Rattle.blocks.specs.Sound.{Entries}
+use Rattle.channels.specs.declared.Bandwidths.{Bandwidths}
+
+-- no more coupling bands than sub-bands
+pub record SoundBands (c : Coupling) : Type 0 where
+  pub ncplbnd : c .ncplbnd ≤ 18
+
+-- a code above 60 is refused, and not kept
+pub record SoundBandwidths (w : Bandwidths) : Type 0 where
+  pub chbwcod : Entries (w .chbwcod) 61

@@ -1,0 +1,315 @@
+// The coupling strategy and coordinates of a block, and its rematrixing (4.3.3).
+use blocks::Coupling;
+use syntax::Cursor;
+use syntax::Flagged;
+use syntax::NONE;
+use syntax::elements::and_not;
+use syntax::elements::flag_if;
+use syntax::elements::flags;
+use syntax::names::*;
+ghost use mathlib.Core.Path.{_≡_};
+ghost use mathlib.Core.Bool.{false, _&&_, _||_};
+ghost use Prim.Native.Nat.{_<_, _≤_};
+ghost use lib.ListN.{replicate};
+ghost use Rattle.syntax.specs.Grammar as syntax;
+ghost use Rattle.syntax.specs.Reads.{Reads};
+ghost use Rattle.blocks.specs.Slots.{subBands};
+ghost use Rattle.blocks.specs.Sound.{SoundCoupling};
+ghost use Rattle.channels.specs.Coupling as grammar;
+ghost use Rattle.channels.specs.Sound.{SoundBands};
+
+// A flag for each channel, and where reading stands then.
+pub struct ChannelsRead {
+    pub set: [bool; 5],
+    pub cursor: Cursor,
+}
+
+fn coupled_channels(s: &[u8], rows: &mut [i32], c: Cursor, blk: u8, nfchans: u8) -> ChannelsRead
+    requires { ⌜ nfchans ≤ 5 ⌝ }
+    ensures { λ r. ⌜ Reads (grammar.coupledChannels blk nfchans) (now (s .entry)) c (now (rows .entry)) (r .set) (r .cursor) (now (rows .exit)) ⌝ }
+{
+    let mut set = [false; 5];
+    let mut cursor = c;
+    for ch in 0..nfchans {
+        let chincpl = syntax::flag_nth(s, rows, cursor, blk, CHINCPL, ch);
+        set[ch as usize] = chincpl.set;
+        cursor = chincpl.cursor;
+    }
+    ChannelsRead { set, cursor }
+}
+
+fn how_many(set: [bool; 5]) -> u8
+    ensures { λ r. ⌜ r ≡ grammar.howMany set ⌝ }
+{
+    let mut count = 0;
+    for ch in 0..5 {
+        if set[ch] {
+            count += 1;
+        }
+    }
+    count
+}
+
+// Coupling sub-bands: none where the range is empty.
+fn sub_bands(cplbegf: usize, cplendf: usize) -> usize
+    requires { ⌜ (cplbegf < 16) × (cplendf < 16) ⌝ }
+    ensures { λ r. ⌜ r ≡ subBands cplbegf cplendf ⌝ }
+    ensures { λ r. ⌜ r ≤ 18 ⌝ }
+{
+    if cplendf + 2 < cplbegf {
+        0
+    } else {
+        3 + cplendf - cplbegf
+    }
+}
+
+pub struct BandsRead {
+    pub bands: usize,
+    pub cursor: Cursor,
+}
+
+// The coupling bands: as many as there are sub-bands, less those that join the band before them.
+fn coupling_bands(s: &[u8], rows: &mut [i32], c: Cursor, blk: u8, subbands: usize) -> BandsRead
+    requires { ⌜ subbands ≤ 18 ⌝ }
+    ensures { λ r. ⌜ Reads (grammar.couplingBands blk subbands) (now (s .entry)) c (now (rows .entry)) (r .bands) (r .cursor) (now (rows .exit)) ⌝ }
+    ensures { λ r. ⌜ r .bands ≤ 18 ⌝ }
+{
+    let mut bands = subbands;
+    let mut cursor = c;
+    for bnd in 1..subbands {
+        let cplbndstrc = syntax::flag_nth(s, rows, cursor, blk, CPLBNDSTRC, bnd as u8);
+        if cplbndstrc.set {
+            bands -= 1;
+        }
+        cursor = cplbndstrc.cursor;
+    }
+    BandsRead { bands, cursor }
+}
+
+pub struct CouplingRead {
+    pub coupling: Coupling,
+    pub cursor: Cursor,
+}
+
+// cplinu 1
+fn new_coupling(
+    s: &[u8],
+    rows: &mut [i32],
+    c: Cursor,
+    blk: u8,
+    acmod: u8,
+    nfchans: u8,
+) -> CouplingRead
+    requires { ⌜ nfchans ≤ 5 ⌝ }
+    ensures { λ r. ⌜ Reads (grammar.newCoupling blk acmod nfchans) (now (s .entry)) c (now (rows .entry)) (r .coupling) (r .cursor) (now (rows .exit)) ⌝ }
+    ensures { λ r. ⌜ SoundCoupling (r .coupling) ⌝ }
+    ensures { λ r. ⌜ SoundBands (r .coupling) ⌝ }
+{
+    let channels = coupled_channels(s, rows, c, blk, nfchans);
+    let phsflginu = flag_if(s, rows, channels.cursor, acmod == 2, blk, PHSFLGINU);
+    let cplbegf = syntax::take_nth(s, rows, phsflginu.cursor, blk, CPLBEGF, NONE, 4);
+    let cplendf = syntax::take_nth(s, rows, cplbegf.cursor, blk, CPLENDF, NONE, 4);
+    let first = cplbegf.value as usize;
+    let last = cplendf.value as usize;
+    let ranged = syntax::refuse_if(cplendf.cursor, last + 2 < first, 9);
+    let ncplbnd = coupling_bands(s, rows, ranged, blk, sub_bands(first, last));
+    let chincpl = channels.set;
+    let cursor = syntax::refuse_if(ncplbnd.cursor, how_many(chincpl) < 2, 10);
+    CouplingRead {
+        coupling: Coupling {
+            cplinu: true,
+            chincpl,
+            phsflginu: phsflginu.set,
+            cplbegf: first,
+            cplendf: last,
+            ncplbnd: ncplbnd.bands,
+        },
+        cursor,
+    }
+}
+
+// cplinu 0: no channel is coupled; the range stays.
+fn uncoupled(mut c: Coupling) -> Coupling
+    ensures { λ r. ⌜ r ≡ grammar.uncoupled c ⌝ }
+{
+    c.cplinu = false;
+    c.chincpl = [false; 5];
+    c.phsflginu = false;
+    c
+}
+
+pub fn coupling_strategy(
+    s: &[u8],
+    rows: &mut [i32],
+    c: Cursor,
+    blk: u8,
+    acmod: u8,
+    nfchans: u8,
+    old: Coupling,
+) -> CouplingRead
+    requires { ⌜ nfchans ≤ 5 ⌝ }
+    requires { ⌜ SoundCoupling old ⌝ }
+    requires { ⌜ SoundBands old ⌝ }
+    ensures { λ r. ⌜ Reads (grammar.couplingStrategy blk acmod nfchans old) (now (s .entry)) c (now (rows .entry)) (r .coupling) (r .cursor) (now (rows .exit)) ⌝ }
+    ensures { λ r. ⌜ SoundCoupling (r .coupling) ⌝ }
+    ensures { λ r. ⌜ SoundBands (r .coupling) ⌝ }
+{
+    let cplstre = syntax::flag_nth(s, rows, c, blk, CPLSTRE, NONE);
+    let cursor = syntax::refuse_if(cplstre.cursor, and_not(blk == 0, cplstre.set), 8);
+    if cplstre.set {
+        let cplinu = syntax::flag_nth(s, rows, cursor, blk, CPLINU, NONE);
+        if cplinu.set {
+            new_coupling(s, rows, cplinu.cursor, blk, acmod, nfchans)
+        } else {
+            let coupling = uncoupled(old);
+            let cursor = cplinu.cursor;
+            CouplingRead { coupling, cursor }
+        }
+    } else {
+        CouplingRead {
+            coupling: old,
+            cursor,
+        }
+    }
+}
+
+// ---- coordinates
+
+fn coordinates(s: &[u8], rows: &mut [i32], c: Cursor, blk: u8, ch: u8, ncplbnd: usize) -> Cursor
+    ensures { λ r. ⌜ Reads (syntax.each ncplbnd (grammar.coordinate blk ch)) (now (s .entry)) c (now (rows .entry)) tt r (now (rows .exit)) ⌝ }
+{
+    let mut cursor = c;
+    for _bnd in 0..ncplbnd {
+        let cplcoexp = syntax::note_nth(s, rows, cursor, blk, CPLCOEXP, ch, 4);
+        cursor = syntax::note_nth(s, rows, cplcoexp, blk, CPLCOMANT, ch, 4);
+    }
+    cursor
+}
+
+// Whether a channel sent coordinates.
+fn channel_coordinates(
+    s: &[u8],
+    rows: &mut [i32],
+    c: Cursor,
+    blk: u8,
+    coupling: Coupling,
+    ch: u8,
+) -> Flagged
+    requires { ⌜ ch < 5 ⌝ }
+    ensures { λ r. ⌜ Reads (grammar.channelCoordinates blk coupling ch) (now (s .entry)) c (now (rows .entry)) (r .set) (r .cursor) (now (rows .exit)) ⌝ }
+{
+    if coupling.chincpl[ch as usize] {
+        let cplcoe = syntax::flag_nth(s, rows, c, blk, CPLCOE, ch);
+        if cplcoe.set {
+            let mstrcplco = syntax::note_nth(s, rows, cplcoe.cursor, blk, MSTRCPLCO, ch, 2);
+            let cursor = coordinates(s, rows, mstrcplco, blk, ch, coupling.ncplbnd);
+            Flagged { set: true, cursor }
+        } else {
+            cplcoe
+        }
+    } else {
+        Flagged {
+            set: false,
+            cursor: c,
+        }
+    }
+}
+
+fn sent_coordinates(
+    s: &[u8],
+    rows: &mut [i32],
+    c: Cursor,
+    blk: u8,
+    nfchans: u8,
+    coupling: Coupling,
+) -> ChannelsRead
+    requires { ⌜ nfchans ≤ 5 ⌝ }
+    ensures { λ r. ⌜ Reads (syntax.fill nfchans (replicate 5 false) (grammar.channelCoordinates blk coupling)) (now (s .entry)) c (now (rows .entry)) (r .set) (r .cursor) (now (rows .exit)) ⌝ }
+{
+    let mut set = [false; 5];
+    let mut cursor = c;
+    for ch in 0..nfchans {
+        let sent = channel_coordinates(s, rows, cursor, blk, coupling, ch);
+        set[ch as usize] = sent.set;
+        cursor = sent.cursor;
+    }
+    ChannelsRead { set, cursor }
+}
+
+// Phase flags follow where they are in use and one of the two channels sent coordinates.
+fn phases_follow(phsflginu: bool, left: bool, right: bool) -> bool
+    ensures { λ r. ⌜ r ≡ (phsflginu && (left || right)) ⌝ }
+{
+    phsflginu && (left || right)
+}
+
+// Which channels sent coordinates: none where there is no coupling.
+pub fn coupling_coordinates(
+    s: &[u8],
+    rows: &mut [i32],
+    c: Cursor,
+    blk: u8,
+    nfchans: u8,
+    coupling: Coupling,
+) -> ChannelsRead
+    requires { ⌜ nfchans ≤ 5 ⌝ }
+    requires { ⌜ SoundBands coupling ⌝ }
+    ensures { λ r. ⌜ Reads (grammar.couplingCoordinates blk nfchans coupling) (now (s .entry)) c (now (rows .entry)) (r .set) (r .cursor) (now (rows .exit)) ⌝ }
+{
+    if coupling.cplinu {
+        let sent = sent_coordinates(s, rows, c, blk, nfchans, coupling);
+        let set = sent.set;
+        if phases_follow(coupling.phsflginu, set[0], set[1]) {
+            let cursor = flags(s, rows, sent.cursor, blk, PHSFLG, coupling.ncplbnd as u8);
+            ChannelsRead { set, cursor }
+        } else {
+            sent
+        }
+    } else {
+        ChannelsRead {
+            set: [false; 5],
+            cursor: c,
+        }
+    }
+}
+
+// ---- rematrixing, Table 4.10
+
+fn rematrix_bands(c: Coupling) -> u8
+    ensures { λ r. ⌜ r ≡ grammar.rematrixBands c ⌝ }
+{
+    if c.cplinu {
+        if 2 < c.cplbegf {
+            4
+        } else if 0 < c.cplbegf {
+            3
+        } else {
+            2
+        }
+    } else {
+        4
+    }
+}
+
+pub fn rematrixing(
+    s: &[u8],
+    rows: &mut [i32],
+    c: Cursor,
+    blk: u8,
+    acmod: u8,
+    coupling: Coupling,
+) -> Cursor
+    ensures { λ r. ⌜ Reads (grammar.rematrixing blk acmod coupling) (now (s .entry)) c (now (rows .entry)) tt r (now (rows .exit)) ⌝ }
+{
+    if acmod == 2 {
+        let rematstr = syntax::flag_nth(s, rows, c, blk, REMATSTR, NONE);
+        let cursor = syntax::refuse_if(rematstr.cursor, and_not(blk == 0, rematstr.set), 8);
+        if rematstr.set {
+            flags(s, rows, cursor, blk, REMATFLG, rematrix_bands(coupling))
+        } else {
+            cursor
+        }
+    } else {
+        c
+    }
+}

@@ -1,7 +1,7 @@
--- The channel slots of a block: full bandwidth channels 0 to 4, coupling 5, LFE 6, and the bins of each (4.4.3).
-use mathlib.Core.Bool.{Bool, false}
+-- The channel slots of a block: full bandwidth channels 0 to 4, coupling 5, LFE 6, the bins of each (4.4.3), and whether its exponents are new.
+use mathlib.Core.Bool.{Bool, false, not}
 use Prim.Native.Nat.{ℕ, _+_, _-_, _*_}
-use lib.Dec.{ltb}
+use lib.Dec.{eqb, ltb}
 use lib.ListN.{getD}
 use Rattle.blocks.specs.declared.Coupling.{Coupling}
 
@@ -30,3 +30,7 @@ pastChannel chbwcod = 37 + 3 * (chbwcod + 12)
 
 abbrev pub coupled : Coupling → ℕ → Bool
 coupled c ch = getD (c .chincpl) ch false
+
+-- strategy 0 reuses the exponents in force
+abbrev pub isNew : ℕ → Bool
+isNew strategy = not (eqb strategy 0)

@@ -1,4 +1,4 @@
-// The machinery of an audio block (4.3.3): exponents, bit allocation and mantissas, with what a block leaves to the next one.
+// What the sections of an audio block share (4.3.3), with what a block leaves to the next one; and the parameters of the bit allocation.
 // Slots: full bandwidth channels 0 to 4, coupling 5, LFE 6.
 pub mod delta;
 pub mod parameters;

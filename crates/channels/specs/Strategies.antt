@@ -8,8 +8,7 @@ use Rattle.syntax.specs.Grammar.{Grammar, done, _>>=_, _>>_, one, nth, take, re
 use Rattle.syntax.specs.Names as Name
 use Rattle.blocks.specs.declared.Coupling.{Coupling}
 use Rattle.blocks.specs.declared.Strategies.{Strategies}
-use Rattle.exponents.specs.Exponents.{isNew}
-use Rattle.blocks.specs.Slots.{coupled, firstCoupled, pastChannel}
+use Rattle.blocks.specs.Slots.{coupled, firstCoupled, pastChannel, isNew}
 use Rattle.channels.specs.declared.Bandwidths.{Bandwidths}
 
 unfoldable pub channelStrategies : (blk nfchans : ℕ) → Grammar (List ℕ)

@@ -6,13 +6,13 @@ use Prim.Native.Nat.{ℕ}
 use lib.IntN.{ℤ, pos, negsuc}
 use lib.ListN.{replicate}
 use Rattle.bits.specs.Bits.{bitAt, value}
+use Rattle.tables.specs.Tables.{frameBytes}
 use Rattle.syntax.specs.Grammar.{_>>=_}
 use Rattle.syntax.specs.Numbers.{shown}
 use Rattle.syntax.specs.Place.{except, exec, flatten}
 use Rattle.syntax.specs.Run.{roomCheck, check, unless, run, refused, parse}
-use Rattle.tables.specs.Tables.{frameBytes}
-use Rattle.ac3.specs.Frame.{syncframe, noSummary, answered, answer}
 use Rattle.header.specs.Header.{header, syncinfo}
+use Rattle.ac3.specs.Frame.{syncframe, noSummary, answered, answer}
 
 abbrev frame : List ℕ
 frame = 0x0B ∷ 0x77 ∷ 0x00 ∷ 0x00 ∷ 0xC0 ∷ 0x00 ∷ []

@@ -9,9 +9,9 @@ use Rattle.syntax.specs.declared.Item.{Item}
 use Rattle.syntax.specs.Grammar.{Grammar, done, refuse, field, free, span, walk, frame, here, _>>=_, _>>_, refuseIf, when, readIf, turns, for, each}
 use Rattle.syntax.specs.Names as Name
 use Rattle.syntax.specs.Run.{steering, past, judged, Check, clear, stop, Spot, Result, unless, roomCheck, check, run, rowsOf, parse}
+use Rattle.header.specs.Header.{syncinfo, programmes, programmeInfo, alternateInfo, timeCodes, additionalInfo, bsi, header}
+use Rattle.header.specs.declared.Header.{Header}
 use Rattle.blocks.specs.Delta.{deltaCode, channelCode, segment, newDeltas, slotDeltas, codedDeltas, deltas}
-use Rattle.exponents.specs.Exponents.{Unpacked, Exponents, step, group, firstName, groupName, exponentSet, slotExponents, channelExponents, exponents}
-use Rattle.mantissas.specs.Mantissas.{mantissas}
 use Rattle.blocks.specs.Parameters.{newCurve, curve, fineOffset, channelOffset, newOffsets, offsets, newLeak, couplingLeak}
 use Rattle.blocks.specs.Slots.{CPL, LFE}
 use Rattle.blocks.specs.declared.AllocState.{AllocState}
@@ -21,14 +21,14 @@ use Rattle.blocks.specs.declared.Curve.{Curve}
 use Rattle.blocks.specs.declared.Deltas.{Deltas}
 use Rattle.blocks.specs.declared.Offsets.{Offsets}
 use Rattle.blocks.specs.declared.Strategies.{Strategies}
-use Rattle.ac3.specs.AudioBlock.{Carry, channelFlags, dynamicRange, skipField, allocState, audioBlock}
+use Rattle.exponents.specs.Exponents.{Unpacked, Exponents, step, group, firstName, groupName, exponentSet, slotExponents, channelExponents, exponents}
+use Rattle.mantissas.specs.Mantissas.{mantissas}
 use Rattle.channels.specs.Coupling.{coupledChannels, joined, couplingBands, newCoupling, couplingStrategy, coordinate, channelCoordinates, phaseFlags, couplingCoordinates, rematrixing}
-use Rattle.ac3.specs.Frame.{audio, syncframe}
-use Rattle.header.specs.Header.{syncinfo, programmes, programmeInfo, alternateInfo, timeCodes, additionalInfo, bsi, header}
-use Rattle.ac3.specs.Marked.{kindFits, KindsFit, numberFits, StopFits, EndFits, Marked, m-done, m-refuse, m-field, m-free, m-span, m-walk, m-frame, m-here}
 use Rattle.channels.specs.Strategies.{channelStrategies, exponentStrategies, bandwidth, bandwidths, channelEnd, channelEnds}
 use Rattle.channels.specs.declared.Bandwidths.{Bandwidths}
-use Rattle.header.specs.declared.Header.{Header}
+use Rattle.ac3.specs.AudioBlock.{Carry, channelFlags, dynamicRange, skipField, allocState, audioBlock}
+use Rattle.ac3.specs.Frame.{audio, syncframe}
+use Rattle.ac3.specs.Marked.{kindFits, KindsFit, numberFits, StopFits, EndFits, Marked, m-done, m-refuse, m-field, m-free, m-span, m-walk, m-frame, m-here}
 
 module _ {A B : Type 0} where
   m-bind : {g : Grammar A} {f : A → Grammar B} → Marked g → ((a : A) → Marked (f a)) → Marked (g >>= f)

@@ -14,9 +14,9 @@ use Rattle.syntax.specs.Rows.{Tiles}
 use Rattle.syntax.specs.Run.{Row, Spot, End, reached, refused, Result, Accepts, run, continue, parse, rowsOf, endOf}
 use Rattle.syntax.proofs.Agreement.{exec-parse}
 use Rattle.syntax.proofs.Bind.{run-bind}
+use Rattle.header.specs.Header.{header}
 use Rattle.ac3.specs.Frame.{Audio, unread, audio, syncframe, summaryOf, noSummary, answered}
 use Rattle.ac3.specs.AudioBlock.{audioBlock}
-use Rattle.header.specs.Header.{header}
 use Rattle.ac3.specs.Marked.{numberFits, EndFits}
 use Rattle.ac3.specs.Promise.{Call, input, roomFor, listed, bitOf, Reaches, Promised, answerTo, Accepted, Demand3OfAnswers}
 use Rattle.ac3.specs.declared.Answer.{Answer}

@@ -2,9 +2,9 @@
 use native.Mathlib.Omega.{arith}
 use Rattle.blocks.specs.Sound.{SoundExps}
 use Rattle.blocks.proofs.Entries.{exps-none, deltas-none}
+use Rattle.channels.proofs.Bounds.{zeros}
 use Rattle.ac3.specs.Frame.{unsent, unread}
 use Rattle.ac3.specs.Sound.{SoundState}
-use Rattle.channels.proofs.Bounds.{zeros}
 
 pub sound-exps : SoundExps (unread .exps)
 sound-exps = exps-none

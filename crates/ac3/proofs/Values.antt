@@ -3,15 +3,15 @@ use mathlib.Core.Bool.{Bool, true, false}
 use mathlib.Core.Path.{_≡_, refl}
 use lib.IntN.{ℤ, pos, _+ℤ_, +ℤ-invr}
 use lib.Signed.{ltZ}
+use Rattle.bits.specs.Bits.{value, bitAt}
 use Rattle.signed.specs.Level.{pick}
+use Rattle.tables.specs.Tables.{frameBytes, words48, words44, bapBits, bandEnd, logAdd}
 use Rattle.alloc.specs.Alloc.{logadd, snrOffset, bandOf}
 use Rattle.alloc.specs.Delta.{deltaOf}
-use Rattle.bits.specs.Bits.{value, bitAt}
-use Rattle.exponents.specs.Exponents.{group, step}
-use Rattle.mantissas.specs.Mantissas.{widths}
 use Rattle.syntax.specs.Grammar.{_>>=_}
 use Rattle.syntax.specs.Run.{sum, run, unless, roomCheck, check}
-use Rattle.tables.specs.Tables.{frameBytes, words48, words44, bapBits, bandEnd, logAdd}
+use Rattle.exponents.specs.Exponents.{group, step}
+use Rattle.mantissas.specs.Mantissas.{widths}
 use Rattle.ac3.specs.Values.{ValuesOnEachSide}
 
 pick-same : (b : Bool) (a : ℤ) → pick b a a ≡ a

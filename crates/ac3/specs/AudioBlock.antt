@@ -5,19 +5,19 @@ use Prim.Native.Nat.{ℕ, _+_, _*_}
 use lib.Dec.{eqb}
 use lib.IntN.{ℤ}
 use lib.ListN.{set}
+use Rattle.tables.specs.Tables.{nfchans}
 use Rattle.syntax.specs.declared.Role.the-variants.{DynrngExists, Dynrng, Skiple, Skipl, Skipfld}
 use Rattle.syntax.specs.Grammar.{Grammar, done, _>>=_, _>>_, nth, oneRoled, take, flag, note, pass, position, when, each}
 use Rattle.syntax.specs.Names as Name
-use Rattle.tables.specs.Tables.{nfchans}
+use Rattle.header.specs.Header.{programmes}
+use Rattle.header.specs.declared.Header.{Header}
 use Rattle.blocks.specs.declared.AllocState.{AllocState}
 use Rattle.blocks.specs.Delta.{deltas}
+use Rattle.blocks.specs.Parameters.{curve, offsets, couplingLeak}
 use Rattle.exponents.specs.Exponents.{Exponents, exponents}
 use Rattle.mantissas.specs.Mantissas.{mantissas}
-use Rattle.blocks.specs.Parameters.{curve, offsets, couplingLeak}
 use Rattle.channels.specs.Coupling.{couplingStrategy, couplingCoordinates, rematrixing}
-use Rattle.header.specs.Header.{programmes}
 use Rattle.channels.specs.Strategies.{exponentStrategies, bandwidths, channelEnds}
-use Rattle.header.specs.declared.Header.{Header}
 use Rattle.ac3.specs.declared.State.{State}
 use Rattle.ac3.specs.declared.Tally.{Tally}
 

@@ -6,11 +6,11 @@ use lib.IntN.{ℤ, pos}
 use lib.ListN.{replicate, drop}
 use Rattle.syntax.specs.Grammar.{Grammar, done, _>>=_, position, for}
 use Rattle.syntax.specs.Place.{Place, Outcome, got, no, exec, fresh}
+use Rattle.header.specs.Header.{header}
+use Rattle.header.specs.declared.Header.{Header}
 use Rattle.blocks.specs.Delta.{noDeltas}
 use Rattle.ac3.specs.AudioBlock.{Carry, audioBlock}
-use Rattle.header.specs.Header.{header}
 use Rattle.ac3.specs.declared.Answer.{Answer}
-use Rattle.header.specs.declared.Header.{Header}
 use Rattle.ac3.specs.declared.Summary.{Summary}
 use Rattle.ac3.specs.declared.State.{State}
 use Rattle.ac3.specs.declared.Tally.{Tally}

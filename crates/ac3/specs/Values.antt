@@ -5,15 +5,15 @@ use mathlib.Core.Path.{_≡_}
 use Prim.Native.Nat.{ℕ, _*_}
 use lib.IntN.{ℤ, pos, negsuc, _+ℤ_}
 use lib.ListN.{replicate}
+use Rattle.bits.specs.Bits.{value}
+use Rattle.tables.specs.Tables.{frameBytes}
 use Rattle.alloc.specs.Alloc.{logadd, snrOffset, bandOf}
 use Rattle.alloc.specs.Delta.{deltaOf}
-use Rattle.bits.specs.Bits.{value}
-use Rattle.exponents.specs.Exponents.{Unpacked, group, groupCount}
-use Rattle.mantissas.specs.Mantissas.{noneOpen, widths}
-use Rattle.blocks.specs.Slots.{subBands, rangeEmpty, firstCoupled, pastCoupled, pastChannel}
 use Rattle.syntax.specs.Grammar.{_>>=_, _>>_, plain, framed}
 use Rattle.syntax.specs.Run.{sum, End, reached, refused, parse}
-use Rattle.tables.specs.Tables.{frameBytes}
+use Rattle.blocks.specs.Slots.{subBands, rangeEmpty, firstCoupled, pastCoupled, pastChannel}
+use Rattle.exponents.specs.Exponents.{Unpacked, group, groupCount}
+use Rattle.mantissas.specs.Mantissas.{noneOpen, widths}
 
 -- what one group makes of three bins from bin 0 on, after an exponent of 10
 abbrev pub grouped : ℕ → End Unpacked

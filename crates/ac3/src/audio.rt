@@ -15,9 +15,9 @@ use syntax::Cursor;
 ghost use mathlib.Core.Path.{_≡_};
 ghost use Prim.Native.Nat.{_+_, _<_, _≤_};
 ghost use Rattle.syntax.specs.Reads.{Reads};
+ghost use Rattle.header.specs.Sound.{SoundHeader};
 ghost use Rattle.ac3.specs.Frame as grammar;
 ghost use Rattle.ac3.specs.Sound.{SoundState};
-ghost use Rattle.header.specs.Sound.{SoundHeader};
 
 // Nothing was sent yet.
 fn unsent() -> State

@@ -27,12 +27,12 @@ ghost use mathlib.Core.Path.{_≡_};
 ghost use Prim.Native.Nat.{ℕ, _+_, _<_, _≤_};
 ghost use Rattle.syntax.specs.Grammar as syntax;
 ghost use Rattle.syntax.specs.Reads.{Reads};
+ghost use Rattle.header.specs.Header as header;
+ghost use Rattle.header.specs.Sound.{SoundHeader};
 ghost use Rattle.blocks.specs.Sound.{SoundAlloc, SoundExps};
 ghost use Rattle.mantissas.specs.Kept.{Kept};
 ghost use Rattle.ac3.specs.AudioBlock as grammar;
-ghost use Rattle.header.specs.Header as header;
 ghost use Rattle.ac3.specs.Sound.{SoundState};
-ghost use Rattle.header.specs.Sound.{SoundHeader};
 
 // Dynamic range: the second programme's names stand two further on.
 fn dynamic_range(s: &[u8], rows: &mut [i32], c: Cursor, blk: u8, p: u8) -> Cursor

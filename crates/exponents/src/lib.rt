@@ -22,11 +22,11 @@ ghost use lib.Seq.{sets};
 ghost use Rattle.syntax.specs.Grammar.{for, readIf};
 ghost use Rattle.syntax.specs.Reads.{Reads};
 ghost use Rattle.blocks.specs.Slots as slots;
-ghost use Rattle.exponents.specs.Exponents as grammar;
 ghost use Rattle.blocks.specs.Forgotten.{nothing, Forgets};
+ghost use Rattle.blocks.specs.Sound.{SoundRow, SoundExps, Entries, SoundCoupling, SoundStrategies, SoundEnds};
+ghost use Rattle.exponents.specs.Exponents as grammar;
 ghost use Rattle.exponents.specs.AtHand.{Steps, Unmarked, NearThree, ThreeInside, AtHand};
 ghost use Rattle.exponents.specs.Sound.{SoundUnpacked};
-ghost use Rattle.blocks.specs.Sound.{SoundRow, SoundExps, Entries, SoundCoupling, SoundStrategies, SoundEnds};
 
 // ---- one set
 

@@ -2,10 +2,10 @@
 use mathlib.Core.Bool.{_&&_, not, cond}
 use Prim.Native.Nat.{ℕ, _+_, _*_, _%_}
 use lib.Dec.{eqb, leb, ltb}
+use Rattle.tables.specs.Tables.{frameBytes}
 use Rattle.syntax.specs.declared.Role.the-variants.{Sync, Crc1, FrameSize, Dialnorm, ComprExists, Compr, Addbsi}
 use Rattle.syntax.specs.Grammar.{Grammar, done, _>>=_, _>>_, plain, roled, take, flag, note, pass, framed, refuseIf, when, each}
 use Rattle.syntax.specs.Names as Name
-use Rattle.tables.specs.Tables.{frameBytes}
 use Rattle.header.specs.declared.Header.{Header}
 
 -- fscod, and the bytes of the frame

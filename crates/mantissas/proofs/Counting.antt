@@ -10,14 +10,14 @@ use lib.Dec.{eqb}
 use lib.IntN.{ℤ}
 use lib.ListN.{length, replicate}
 use borrow.Author.Tests.{eqb-true, eqb-false}
+use Rattle.tables.specs.Tables.{bapBits, mantissaBits}
+use Rattle.tables.proofs.Rules.{small-at}
 use Rattle.alloc.specs.Listed.{pointerList}
 use Rattle.alloc.specs.Steps.{bapAt}
 use Rattle.syntax.specs.Run.{sum}
-use Rattle.tables.specs.Tables.{bapBits, mantissaBits}
-use Rattle.tables.proofs.Rules.{small-at}
+use Rattle.blocks.specs.declared.AllocState.{AllocState}
 use Rattle.mantissas.specs.Counts.{pointersAt, noCounts, isPointer, counted, countedAll, plus, widthOf, openAfter, AtMost, packed, weight}
 use Rattle.mantissas.specs.Mantissas.{Open, noneOpen, bitsOf, nowOpen, widths, pointers}
-use Rattle.blocks.specs.declared.AllocState.{AllocState}
 use Rattle.mantissas.specs.declared.Counts.{Counts}
 use Rattle.mantissas.specs.declared.Part.{Part}
 use Rattle.mantissas.proofs.Between.{from-none, from-one, from-length}

@@ -2,8 +2,8 @@
 use mathlib.Core.Bool.{true, false}
 use mathlib.Core.List.{[], _∷_}
 use mathlib.Core.Path.{_≡_, refl}
-use Rattle.syntax.specs.Run.{sum}
 use Rattle.tables.specs.Tables.{bapBits}
+use Rattle.syntax.specs.Run.{sum}
 use Rattle.blocks.specs.Slots.{CPL, LFE}
 use Rattle.blocks.specs.declared.Coupling.{Coupling}
 use Rattle.mantissas.specs.Parts.{part, channelParts, parts}

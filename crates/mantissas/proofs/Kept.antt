@@ -14,10 +14,10 @@ use borrow.Author.Tests.{eqb-true, eqb-false}
 use Rattle.alloc.specs.Delta.{deltaSum}
 use Rattle.alloc.specs.Listed.{from, pointerList}
 use Rattle.blocks.specs.Forgotten.{nothing, Forgets}
+use Rattle.blocks.specs.declared.AllocState.{AllocState}
 use Rattle.mantissas.specs.Counts.{noCounts, countedAll}
 use Rattle.mantissas.specs.Kept.{memoOf, pointersBy, countsIn, SameBasis, KeptOf, Kept}
 use Rattle.mantissas.specs.Mantissas.{deltasOf, pointers}
-use Rattle.blocks.specs.declared.AllocState.{AllocState}
 use Rattle.mantissas.specs.declared.Counts.{Counts}
 use Rattle.mantissas.specs.declared.Part.{Part}
 

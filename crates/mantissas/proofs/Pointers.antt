@@ -13,9 +13,9 @@ use Rattle.alloc.specs.Listed.{from}
 use Rattle.alloc.specs.Steps.{bapAt}
 use Rattle.alloc.proofs.Listed.{pointers-listed}
 use Rattle.alloc.proofs.Filled.{everywhere, cleared}
+use Rattle.blocks.specs.declared.AllocState.{AllocState}
 use Rattle.mantissas.specs.Counts.{between, Addresses, pointersAt, noPart}
 use Rattle.mantissas.specs.Mantissas.{leakBefore, gainsOf, deltasOf, pointers, partPointers, allPointers}
-use Rattle.blocks.specs.declared.AllocState.{AllocState}
 use Rattle.mantissas.specs.declared.Part.{Part}
 use Rattle.mantissas.proofs.Between.{between-one, from-same, from-constant}
 

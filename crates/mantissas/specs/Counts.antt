@@ -6,10 +6,10 @@ use Prim.Native.Nat.{ℕ, _+_, _-_, _*_, _/_, _%_, _<_, _≤_}
 use lib.Dec.{eqb}
 use lib.IntN.{ℤ}
 use lib.ListN.{getD}
+use Rattle.tables.specs.Tables.{bapBits}
 use Rattle.alloc.specs.Alloc.{at}
 use Rattle.alloc.specs.Listed.{from}
 use Rattle.alloc.specs.Steps.{Address, bapAt}
-use Rattle.tables.specs.Tables.{bapBits}
 use Rattle.mantissas.specs.Mantissas.{Open}
 use Rattle.mantissas.specs.Parts.{part}
 use Rattle.mantissas.specs.declared.Counts.{Counts}

@@ -6,12 +6,12 @@ use mathlib.Core.Path.{_≡_}
 use Prim.Native.Nat.{ℕ, _<_}
 use lib.IntN.{ℤ}
 use lib.ListN.{length, getD}
+use Rattle.tables.specs.Tables.{slowDecay, fastDecay, slowGain, fastGain, knee, floor}
 use Rattle.alloc.specs.Alloc.{snrOffset}
 use Rattle.alloc.specs.Listed.{pointerList}
-use Rattle.tables.specs.Tables.{slowDecay, fastDecay, slowGain, fastGain, knee, floor}
+use Rattle.blocks.specs.declared.AllocState.{AllocState}
 use Rattle.mantissas.specs.Counts.{noCounts, countedAll}
 use Rattle.mantissas.specs.Mantissas.{leakBefore}
-use Rattle.blocks.specs.declared.AllocState.{AllocState}
 use Rattle.mantissas.specs.declared.Counts.{Counts}
 use Rattle.mantissas.specs.declared.Part.{Part}
 

@@ -5,6 +5,7 @@ use Prim.Native.Nat.{ℕ, _+_, _-_, _*_, _%_}
 use lib.Dec.{eqb}
 use lib.IntN.{ℤ, pos}
 use lib.ListN.{getD, replicate}
+use Rattle.tables.specs.Tables.{slowDecay, fastDecay, slowGain, fastGain, knee, floor, bapBits}
 use Rattle.alloc.specs.Alloc.{snrOffset}
 use Rattle.alloc.specs.Listed.{pointerList}
 use Rattle.alloc.specs.declared.Gains.{Gains}
@@ -12,7 +13,6 @@ use Rattle.alloc.specs.declared.Leak.{Leak}
 use Rattle.syntax.specs.declared.Role.the-variants.{Mantissas}
 use Rattle.syntax.specs.Grammar.{Grammar, done, _>>=_, _>>_, oneRoled, pieces, position, refuseIf}
 use Rattle.syntax.specs.Names as Name
-use Rattle.tables.specs.Tables.{slowDecay, fastDecay, slowGain, fastGain, knee, floor, bapBits}
 use Rattle.blocks.specs.Delta.{noDeltas}
 use Rattle.blocks.specs.Slots.{CPL, LFE}
 use Rattle.blocks.specs.declared.AllocState.{AllocState}

@@ -31,13 +31,13 @@ ghost use Rattle.tables.specs.Tables.{bap};
 ghost use Rattle.alloc.specs.Excite.{Bounded};
 ghost use Rattle.syntax.specs.Reads.{Reads, walked};
 ghost use Rattle.blocks.specs.Delta.{noDeltas};
+ghost use Rattle.blocks.specs.Sound.{SoundCoupling, SoundEnds, SoundAlloc, SoundLeak, SoundSegments, SoundExps};
 ghost use Rattle.mantissas.specs.Mantissas as grammar;
 ghost use Rattle.mantissas.specs.Mantissas.{noneOpen, widths, allPointers, partPointers};
 ghost use Rattle.mantissas.specs.Parts as slots;
 ghost use Rattle.mantissas.specs.Parts.{part};
 ghost use Rattle.mantissas.specs.Counts.{Addresses, pointersAt, listed, SoundPart, SoundParts, noCounts, counted, countedAll, plus, widthOf, openAfter, AtMost, packed};
 ghost use Rattle.mantissas.specs.Kept.{memoOf, countsIn, SameBasis, Kept};
-ghost use Rattle.blocks.specs.Sound.{SoundCoupling, SoundEnds, SoundAlloc, SoundLeak, SoundSegments, SoundExps};
 
 // A slot in use, with its first bin and the first bin past its last.
 pub struct Part {

@@ -4,8 +4,8 @@ use native.Mathlib.Omega.{arith}
 use lib.ListN.{length, drop, length-drop}
 use lib.Seq.{take-all}
 use borrow.Author.Needs.{needs}
-use Rattle.ac3.proofs.Told.{told-nothing}
 use Rattle.channels.proofs.Listed.{no-more}
+use Rattle.ac3.proofs.Told.{told-nothing}
 use Rattle.ac3.proofs.parse.Statement.{statement}
 use Rattle.ac3.proofs.parse.Tie as tie
 

@@ -1,9 +1,8 @@
 -- `exponents::any_outside` meets its contract: of the numbers from 32 to 120, those below 64 have the bit of 32, and those above 88
 -- have it when 7 are added. Assumes nothing.
 use mathlib.Core.Bool.{true≢false}
-use mathlib.Core.Path.{sym, _∙_}
+use mathlib.Core.Path.{_≡_, sym, _∙_}
 use Prim.Native.Nat.{ℕ, _+_, _*_, _/_, _%_}
-use mathlib.Core.Path.{_≡_}
 use native.Mathlib.Omega.{arith}
 use borrow.Author.Needs.{needs}
 use Rattle.exponents.specs.AtHand.{Unmarked, Inside, Near, ThreeInside, NearThree}

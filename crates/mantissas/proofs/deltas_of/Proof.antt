@@ -8,8 +8,8 @@ use borrow.Author.Needs.{needs}
 use borrow.Author.Tests.{eq-eqb, ne-eqb}
 use Rattle.blocks.specs.Delta.{noDeltas}
 use Rattle.blocks.specs.Sound.{SoundSegments}
-use Rattle.mantissas.proofs.Between.{same-entry}
 use Rattle.blocks.proofs.Entries.{every-replicate}
+use Rattle.mantissas.proofs.Between.{same-entry}
 use Rattle.mantissas.proofs.deltas_of.Statement.{statement}
 use Rattle.mantissas.proofs.deltas_of.Tie as tie
 

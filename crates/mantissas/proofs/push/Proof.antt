@@ -3,9 +3,9 @@ use mathlib.Core.Path.{_≡_, refl, sym, _∙_}
 use native.Mathlib.Omega.{arith}
 use lib.ListN.{length, length-map}
 use borrow.Author.Needs.{needs}
+use Rattle.blocks.proofs.Entries.{every-set}
 use Rattle.mantissas.specs.Counts.{SoundPart, noPart}
 use Rattle.mantissas.proofs.Between.{between-store}
-use Rattle.blocks.proofs.Entries.{every-set}
 use Rattle.mantissas.proofs.push.Statement.{statement}
 use Rattle.mantissas.proofs.push.Tie as tie
 

@@ -3,8 +3,8 @@ use mathlib.Core.Path.{_≡_}
 use Prim.Native.Nat.{ℕ, _≤_, _<_}
 use native.Mathlib.Omega.{arith}
 use borrow.Author.Needs.{needs}
-use Rattle.alloc.specs.Steps.{bapAt}
 use Rattle.signed.specs.Bound.{below-read, below-is, back-32}
+use Rattle.alloc.specs.Steps.{bapAt}
 use Rattle.alloc.proofs.Offset.{snr-below}
 use Rattle.mantissas.proofs.Pointers.{slotAllocation, lists}
 use Rattle.mantissas.proofs.slot_addresses.Statement.{statement}

@@ -3,9 +3,9 @@ use Prim.Native.Nat.{_-_}
 use mathlib.Core.Bool.{false}
 use lib.ListN.{replicate}
 use borrow.Author.Needs.{needs}
-use Rattle.syntax.proofs.Sequence.{Turns, begins, turn, ends, then, finished}
 use Rattle.syntax.specs.Grammar.{flag, nth, filling}
 use Rattle.syntax.specs.Names as Name
+use Rattle.syntax.proofs.Sequence.{Turns, begins, turn, ends, then, finished}
 use Rattle.channels.specs.Coupling.{coupledChannels}
 use Rattle.channels.proofs.coupling.coupled_channels.Statement.{statement}
 use Rattle.channels.proofs.coupling.coupled_channels.Tie as tie

@@ -2,8 +2,8 @@
 use mathlib.Core.Path.{sym, _∙_}
 use borrow.Author.Needs.{needs}
 use Rattle.syntax.proofs.Sequence.{then, finished}
-use Rattle.channels.specs.Coupling.{phaseFlags, couplingCoordinates}
 use Rattle.syntax.proofs.Under.{there, absent, present, omitted}
+use Rattle.channels.specs.Coupling.{phaseFlags, couplingCoordinates}
 use Rattle.channels.proofs.coupling.coupling_coordinates.Statement.{statement}
 use Rattle.channels.proofs.coupling.coupling_coordinates.Tie as tie
 

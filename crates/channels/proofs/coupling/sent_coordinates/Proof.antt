@@ -3,8 +3,8 @@ use Prim.Native.Nat.{_-_}
 use mathlib.Core.Bool.{false}
 use lib.ListN.{replicate}
 use borrow.Author.Needs.{needs}
-use Rattle.syntax.proofs.Sequence.{Turns, begins, turn, ends, then, finished}
 use Rattle.syntax.specs.Grammar.{filling}
+use Rattle.syntax.proofs.Sequence.{Turns, begins, turn, ends, then, finished}
 use Rattle.channels.specs.Coupling.{channelCoordinates}
 use Rattle.channels.proofs.coupling.sent_coordinates.Statement.{statement}
 use Rattle.channels.proofs.coupling.sent_coordinates.Tie as tie

@@ -4,8 +4,8 @@ use mathlib.Core.Path.{refl, sym, _∙_}
 use borrow.Author.Tests.{ltb-false}
 use borrow.Author.Needs.{needs}
 use Rattle.syntax.proofs.Sequence.{then, judged, stopped, finished}
-use Rattle.channels.specs.Strategies.{bandwidth}
 use Rattle.syntax.proofs.Under.{there, absent}
+use Rattle.channels.specs.Strategies.{bandwidth}
 use Rattle.channels.proofs.Bounds.{stored}
 use Rattle.channels.proofs.strategies.bandwidth.Statement.{statement}
 use Rattle.channels.proofs.strategies.bandwidth.Tie as tie

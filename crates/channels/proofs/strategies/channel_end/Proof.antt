@@ -4,8 +4,8 @@ use mathlib.Core.Path.{refl, ap}
 use mathlib.Core.Bool.{not}
 use borrow.Author.Needs.{needs}
 use Rattle.syntax.proofs.Sequence.{then, judged, finished}
-use Rattle.channels.specs.Strategies.{channelEnd}
 use Rattle.syntax.proofs.Under.{there, absent}
+use Rattle.channels.specs.Strategies.{channelEnd}
 use Rattle.channels.proofs.strategies.channel_end.Statement.{statement}
 use Rattle.channels.proofs.strategies.channel_end.Tie as tie
 

@@ -5,8 +5,8 @@ use mathlib.Core.List.{List}
 use lib.IntN.{ℤ}
 use lib.ListN.{replicate}
 use borrow.Author.Needs.{needs}
-use Rattle.syntax.proofs.Sequence.{Turns, begins, turn, ends, then, finished}
 use Rattle.syntax.specs.Grammar.{filling}
+use Rattle.syntax.proofs.Sequence.{Turns, begins, turn, ends, then, finished}
 use Rattle.blocks.specs.Sound.{SoundEnds}
 use Rattle.channels.specs.Strategies.{channelEnd, channelEnds}
 use Rattle.channels.proofs.Bounds.{zeros, stored}

@@ -3,9 +3,9 @@ use Prim.Native.Nat.{_-_}
 use native.Mathlib.Omega.{arith}
 use lib.ListN.{replicate}
 use borrow.Author.Needs.{needs}
-use Rattle.syntax.proofs.Sequence.{Turns, begins, turn, ends, then, finished}
 use Rattle.syntax.specs.Grammar.{take, nth, filling}
 use Rattle.syntax.specs.Names as Name
+use Rattle.syntax.proofs.Sequence.{Turns, begins, turn, ends, then, finished}
 use Rattle.blocks.specs.Sound.{Entries}
 use Rattle.channels.specs.Strategies.{channelStrategies}
 use Rattle.channels.proofs.Bounds.{zeros, stored}

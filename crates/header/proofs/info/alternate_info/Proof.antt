@@ -1,8 +1,8 @@
 -- `header::info::alternate_info` meets its contract: a flag and the lines under it, twice. Assumes nothing.
 use lib.Dec.{lit≤}
 use Rattle.syntax.proofs.Sequence.{then}
-use Rattle.header.specs.Header.{alternateInfo}
 use Rattle.syntax.proofs.Under.{under}
+use Rattle.header.specs.Header.{alternateInfo}
 use Rattle.header.proofs.info.alternate_info.Statement.{statement}
 use Rattle.header.proofs.info.alternate_info.Tie as tie
 

@@ -3,8 +3,8 @@ use native.Mathlib.Omega.{arith}
 use lib.Dec.{lit≤}
 use borrow.Author.Needs.{needs}
 use Rattle.syntax.proofs.Sequence.{then}
-use Rattle.header.specs.Header.{programmeInfo}
 use Rattle.syntax.proofs.Under.{under}
+use Rattle.header.specs.Header.{programmeInfo}
 use Rattle.header.proofs.info.programme_info.Statement.{statement}
 use Rattle.header.proofs.info.programme_info.Tie as tie
 

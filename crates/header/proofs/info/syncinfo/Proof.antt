@@ -5,8 +5,8 @@ use lib.Dec.{lit<, lit≤}
 use borrow.Author.Tests.{eqb-false}
 use borrow.Author.Needs.{needs}
 use Rattle.syntax.proofs.Sequence.{then, judged, finished, stopped}
-use Rattle.header.specs.Header.{syncinfo}
 use Rattle.syntax.proofs.Going.{going}
+use Rattle.header.specs.Header.{syncinfo}
 use Rattle.header.proofs.Rate.{rated}
 use Rattle.header.proofs.info.syncinfo.Statement.{statement}
 use Rattle.header.proofs.info.syncinfo.Tie as tie

@@ -1,8 +1,8 @@
 -- `syntax::elements::flags` meets its contract: the invariant says which flags are left. Assumes nothing.
 use Prim.Native.Nat.{_-_}
 use borrow.Author.Needs.{needs}
-use Rattle.syntax.proofs.Sequence.{Turns, begins, turn, ends}
 use Rattle.syntax.specs.Grammar.{note, nth}
+use Rattle.syntax.proofs.Sequence.{Turns, begins, turn, ends}
 use Rattle.syntax.proofs.elements.flags.Statement.{statement}
 use Rattle.syntax.proofs.elements.flags.Tie as tie
 

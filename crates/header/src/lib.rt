@@ -1,4 +1,4 @@
-// The header of a frame: syncinfo and bsi. `info::header` is public because the frame stands in a crate above.
+// The header of a frame: syncinfo and bsi. What is public here is so because the frame stands in a crate above.
 pub mod info;
 
 // What a frame's header says of its blocks.

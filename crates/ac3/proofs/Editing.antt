@@ -1,4 +1,4 @@
--- Request E6: new bits in the editable fields and in the spans change those values, and nothing else. Assumes nothing.
+-- Bits that may be edited freely: new bits in the editable fields and in the spans change those values, and nothing else. Assumes nothing.
 use mathlib.Core.Bool.{Bool, true, false, not, _||_}
 use mathlib.Core.List.{List, [], _∷_}
 use mathlib.Core.Path.{_≡_, refl}
@@ -25,7 +25,7 @@ quiet spanning name t u = refl
 
 outside : (rows : List Row) (p : ℕ) → KindsFit rows → Outside isQuiet rows p → OutsideEditable rows p
 outside [] p fit out = tt
-outside (r ∷ rs) p fit out = (λ u. out .0 (quiet (r .kind) (r .item .name) (fit .0) u), outside rs p (fit .1) (out .1))
+outside (r ∷ rs) p fit out = (λ u. out .0 (quiet (r .kind) (r .item .name) (fit .0) u), outside rs p (fit .2) (out .1))
 
 pub edit-freely : (s t : List ℕ) (room : ℕ) → Accepts syncframe s room → length s ≡ length t
     → ((p : ℕ) → p < endOf syncframe s room → OutsideEditable (rowsOf syncframe s room) p → bitAt s p ≡ bitAt t p)

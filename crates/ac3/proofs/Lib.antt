@@ -1,10 +1,17 @@
 pub mod Demand3
 pub mod Values
 pub mod Marked
+pub mod AtMost
+pub mod RowBound
+pub mod Within
 pub mod Editing
 pub mod Promise
+pub mod Rooms
+pub mod Useless
 pub mod Example
 pub mod Tried
 pub mod Sent
 pub mod Start
 pub mod Told
+pub mod Apart
+pub mod Later

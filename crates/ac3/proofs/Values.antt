@@ -1,4 +1,4 @@
--- Document 01, "Values on each side", by computation. Assumes nothing.
+-- Values on each side, by computation. Assumes nothing.
 use mathlib.Core.Bool.{Bool, true, false}
 use mathlib.Core.Path.{_≡_, refl}
 use lib.IntN.{ℤ, pos, _+ℤ_, +ℤ-invr}

@@ -1,7 +1,14 @@
 pub mod AudioBlock
 pub mod Frame
 pub mod Marked
+pub mod AtMost
 pub mod Values
 pub mod Promise
+pub mod Rooms
+pub mod Useless
+pub mod RowBound
+pub mod Within
+pub mod Apart
+pub mod Later
 pub mod Sound
 pub mod Listing

@@ -1,14 +1,16 @@
--- What can be said of a grammar by looking through it: exactly the editable names (request E6) are read as values that steer nothing,
--- exactly the spans as spans, and every refusal has one of the twenty numbers.
+-- What can be said of a grammar by looking through it: exactly the editable names are read as values that steer nothing,
+-- exactly the spans as spans, by name and by role, and every refusal has one of the twenty numbers.
 use mathlib.Core.Bool.{Bool, true, false, not, _&&_, _||_}
 use mathlib.Core.List.{List, [], _∷_}
 use Prim.Native.Nat.{ℕ}
 use lib.Dec.{T, eqb, leb}
 use Rattle.syntax.specs.declared.Item.{Item}
+use Rattle.syntax.specs.declared.Role.{Role}
 use Rattle.syntax.specs.Grammar.{Grammar, done, refuse, field, free, span, walk, frame, here}
 use Rattle.syntax.specs.Run.{Kind, steering, unsteering, spanning, Row, number, Check, clear, stop, End, reached, refused}
 use Rattle.syntax.specs.Rows.{Holds}
 use Rattle.syntax.specs.Names.{editable, spans}
+use Rattle.syntax.specs.Numbers.{roleNumbers}
 
 -- is the name in the list?
 abbrev pub among : ℕ → List ℕ → Bool
@@ -20,10 +22,22 @@ kindFits steering name = not (among name editable || among name spans)
 kindFits unsteering name = among name editable
 kindFits spanning name = among name spans
 
--- each of these rows is of its name's kind
+-- the numbers of the roles Skipfld, Addbsi and Mantissas, and whether a role is one of the three
+abbrev pub spanRoles : List ℕ
+spanRoles = 13 ∷ 14 ∷ 15 ∷ []
+
+abbrev pub spanRole : Role → Bool
+spanRole role = among (roleNumbers role .0) spanRoles
+
+abbrev pub roleFits : Kind → Role → Bool
+roleFits steering role = not (spanRole role)
+roleFits unsteering role = not (spanRole role)
+roleFits spanning role = spanRole role
+
+-- each of these rows is of its name's and its role's kind
 abbrev pub KindsFit : List Row → Type 0
 KindsFit [] = Unit {0}
-KindsFit (r ∷ rs) = T (kindFits (r .kind) (r .item .name)) × KindsFit rs
+KindsFit (r ∷ rs) = T (kindFits (r .kind) (r .item .name)) × T (roleFits (r .kind) (r .item .role)) × KindsFit rs
 
 abbrev pub numberFits : ℕ → Bool
 numberFits n = leb 1 n && leb n 20
@@ -37,14 +51,14 @@ abbrev pub EndFits : {A : Type 0} → End A → Type 0
 EndFits (reached a) = Unit {0}
 EndFits (refused n) = T (numberFits n)
 
--- every field that the grammar can meet is of its name's kind, and every refusal is numbered
+-- every field that the grammar can meet is of its name's and its role's kind, and every refusal is numbered
 pub data Marked {A : Type 0} : Grammar A → Type 0 where
   m-done : {a : A} → Marked (done a)
   m-refuse : {n : ℕ} → T (numberFits n) → Marked (refuse n)
-  m-field : {i : Item} {w : ℕ} {k : ℕ → Grammar A} → T (kindFits steering (i .name)) → ((v : ℕ) → Marked (k v)) → Marked (field i w k)
-  m-free : {i : Item} {w : ℕ} {k : Grammar A} → T (kindFits unsteering (i .name)) → Marked k → Marked (free i w k)
-  m-span : {i : Item} {w : ℕ} {k : Grammar A} → T (kindFits spanning (i .name)) → Marked k → Marked (span i w k)
-  m-walk : {i : Item} {ws : List ℕ} {k : Grammar A} → T (kindFits spanning (i .name)) → Marked k → Marked (walk i ws k)
+  m-field : {i : Item} {w : ℕ} {k : ℕ → Grammar A} → T (kindFits steering (i .name)) → T (roleFits steering (i .role)) → ((v : ℕ) → Marked (k v)) → Marked (field i w k)
+  m-free : {i : Item} {w : ℕ} {k : Grammar A} → T (kindFits unsteering (i .name)) → T (roleFits unsteering (i .role)) → Marked k → Marked (free i w k)
+  m-span : {i : Item} {w : ℕ} {k : Grammar A} → T (kindFits spanning (i .name)) → T (roleFits spanning (i .role)) → Marked k → Marked (span i w k)
+  m-walk : {i : Item} {ws : List ℕ} {k : Grammar A} → T (kindFits spanning (i .name)) → T (roleFits spanning (i .role)) → Marked k → Marked (walk i ws k)
   m-frame : {x n : ℕ} {k : Grammar A} → T (numberFits x) → Marked k → Marked (frame x n k)
   m-here : {k : ℕ → Grammar A} → ((at : ℕ) → Marked (k at)) → Marked (here k)
 

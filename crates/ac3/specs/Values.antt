@@ -1,4 +1,4 @@
--- Document 01, "Values on each side": one table, as a statement about the definitions. `proofs/Values.antt` proves it.
+-- Values on each side (docs/FORMAT.md): one table, as a statement about the definitions. `proofs/Values.antt` proves it.
 use mathlib.Core.Bool.{true, false}
 use mathlib.Core.List.{List, [], _∷_, map}
 use mathlib.Core.Path.{_≡_}

@@ -1,4 +1,4 @@
--- Values that document 01 gives, computed from the definitions, and some on which a slip would show. Assumes nothing.
+-- Values on each side (docs/FORMAT.md), computed from the definitions, and some on which a slip would show. Assumes nothing.
 use mathlib.Core.Path.{_≡_, refl}
 use lib.IntN.{ℤ, pos, negsuc}
 use Rattle.tables.specs.Tables.{bandEnd, logAdd}

@@ -1,4 +1,4 @@
--- Small cases of the sections of a block, by computation: what document 01 names as slips comes out otherwise here. Assumes nothing.
+-- Small cases of the sections of a block, by computation: a slip that docs/DECISIONS.md lists would come out otherwise here. Assumes nothing.
 use mathlib.Core.Bool.{false}
 use mathlib.Core.List.{List, [], _∷_, map}
 use mathlib.Core.Path.{_≡_, refl}

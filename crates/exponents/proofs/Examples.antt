@@ -1,4 +1,4 @@
--- A set of exponents, by computation: what document 01 names as a slip comes out otherwise here. Assumes nothing.
+-- A set of exponents, by computation: a slip that docs/DECISIONS.md lists would come out otherwise here. Assumes nothing.
 use mathlib.Core.List.{List, [], _∷_, _++_}
 use mathlib.Core.Path.{_≡_, refl}
 use lib.IntN.{pos}

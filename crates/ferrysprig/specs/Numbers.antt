@@ -1,4 +1,4 @@
--- An answer as 24 numbers: the refusal, the rows written, the bit, and the summary's 21 in document 01's order. Yes is 1.
+-- An answer as 24 numbers: the refusal, the rows written, the bit, and the summary's 21 in the order of docs/FORMAT.md. Yes is 1.
 use mathlib.Core.Bool.{Bool, cond}
 use mathlib.Core.List.{List, [], _∷_, _++_, map}
 use Prim.Native.Nat.{ℕ, min}

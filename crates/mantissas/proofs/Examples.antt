@@ -1,4 +1,4 @@
--- Small cases of the order of the slots and of the mantissas, by computation: what document 01 names as slips comes out otherwise here. Assumes nothing.
+-- Small cases of the order of the slots and of the mantissas, by computation: a slip that docs/DECISIONS.md lists would come out otherwise here. Assumes nothing.
 use mathlib.Core.Bool.{true, false}
 use mathlib.Core.List.{[], _∷_}
 use mathlib.Core.Path.{_≡_, refl}

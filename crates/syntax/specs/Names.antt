@@ -349,7 +349,7 @@ skipfld = 110
 abbrev pub mantissas : ℕ
 mantissas = 111
 
--- ---- names whose values steer nothing (request E6), and names of spans
+-- ---- names whose values steer nothing, so that an editor may change them freely, and names of spans
 
 abbrev pub editable : List ℕ
 editable =

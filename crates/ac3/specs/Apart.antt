@@ -1,0 +1,81 @@
+-- Header and blocks apart: the header by itself, and the six blocks for one who holds a header answer. `proofs/Apart.antt` proves that the whole parse is
+-- both in turn, and that exactly the header's own answer is taken.
+use mathlib.Core.Bool.{Bool, false, _&&_, not, cond}
+use mathlib.Core.List.{List}
+use mathlib.Core.Path.{_≡_}
+use Prim.Native.Nat.{ℕ}
+use lib.Dec.{eqb}
+use lib.IntN.{ℤ}
+use Rattle.syntax.specs.Place.{Outcome, got, no, exec, andThen, fresh}
+use Rattle.header.specs.Header.{header}
+use Rattle.header.specs.declared.Header.{Header}
+use Rattle.ac3.specs.Frame.{audio, noSummary, answered}
+use Rattle.ac3.specs.Promise.{Call, input, answerTo}
+use Rattle.ac3.specs.declared.Answer.{Answer}
+
+-- refusal 0: the header was read to its end, and the bit is the first one after it
+pub record HeaderAnswer : Type 0 where
+  pub refusal : ℕ
+  pub rows : ℕ
+  pub bit : ℕ
+  pub header : Header
+
+-- a refusal's header is all zeros
+abbrev pub noHeader : Header
+noHeader = record { bytes = 0; fscod = 0; bsid = 0; acmod = 0; lfeon = false }
+
+unfoldable pub headed : Outcome Header → HeaderAnswer × List ℤ
+headed (got h p) = (record { refusal = 0; rows = p .count; bit = p .at; header = h }, p .room)
+headed (no n p) = (record { refusal = n; rows = p .count; bit = p .at; header = noHeader }, p .room)
+
+-- the header at a call's place, and the room after it
+abbrev pub headerTo : Call → HeaderAnswer × List ℤ
+headerTo c = headed (exec header (input c) (fresh (c .room)))
+
+-- ---- blocks
+
+abbrev pub sameFlag : Bool → Bool → Bool
+sameFlag a b = cond a b (not b)
+
+abbrev pub sameHeader : Header → Header → Bool
+sameHeader a b = eqb (a .bytes) (b .bytes) && eqb (a .fscod) (b .fscod) && eqb (a .bsid) (b .bsid) && eqb (a .acmod) (b .acmod) && sameFlag (a .lfeon) (b .lfeon)
+
+-- two header answers, number by number
+abbrev pub sameAnswer : HeaderAnswer → HeaderAnswer → Bool
+sameAnswer a b = eqb (a .refusal) (b .refusal) && eqb (a .rows) (b .rows) && eqb (a .bit) (b .bit) && sameHeader (a .header) (b .header)
+
+abbrev pub unfit : Answer
+unfit = record { refusal = 24; rows = 0; bit = 0; summary = noSummary }
+
+-- The header is read again. A claim that is a refusal, or another answer than that, is 24, and the room is as it was; else the blocks follow.
+unfoldable pub blocksTo : Call → (claim : HeaderAnswer) → Answer × List ℤ
+blocksTo c claim =
+    cond (eqb (claim .refusal) 0 && sameAnswer claim (headerTo c .0))
+    (answered (andThen (exec header (input c) (fresh (c .room))) (λ h p. exec (audio h) (input c) p)))
+    (unfit, c .room)
+
+-- ---- both in turn
+
+abbrev pub withRoom : List ℤ → Call → Call
+withRoom room c = record { capture = c .capture; place = c .place; room = room }
+
+abbrev pub endedAt : HeaderAnswer → Answer
+endedAt h = record { refusal = h .refusal; rows = h .rows; bit = h .bit; summary = noSummary }
+
+-- the blocks go by the header's answer, in the room that it leaves; a header refusal ends it
+unfoldable pub inTurn : Call → Answer × List ℤ
+inTurn c =
+    let h = headerTo c in
+    cond (eqb (h .0 .refusal) 0) (blocksTo (withRoom (h .1) c) (h .0)) (endedAt (h .0), h .1)
+
+pub record HeaderAndBlocks : Type 0 where
+  -- the whole parse is both in turn, header refusals included
+  pub in-turn : (c : Call) → answerTo c ≡ inTurn c
+  -- in the room as it was before the header the blocks do the same
+  pub afresh : (c : Call) → headerTo c .0 .refusal ≡ 0 → blocksTo c (headerTo c .0) ≡ answerTo c
+  -- the header's own answer is taken, if it is no refusal, and no other is
+  pub takes : (c : Call) → headerTo c .0 .refusal ≡ 0 → ¬ (blocksTo c (headerTo c .0) .0 .refusal ≡ 24)
+  pub taken : (c : Call) (claim : HeaderAnswer) → ¬ (blocksTo c claim .0 .refusal ≡ 24) → (claim ≡ headerTo c .0) × (claim .refusal ≡ 0)
+  -- what is taken is answered as the whole parse is, and else nothing is written
+  pub answers : (c : Call) (claim : HeaderAnswer) → ¬ (blocksTo c claim .0 .refusal ≡ 24) → blocksTo c claim ≡ answerTo c
+  pub untouched : (c : Call) (claim : HeaderAnswer) → blocksTo c claim .0 .refusal ≡ 24 → blocksTo c claim ≡ (unfit, c .room)

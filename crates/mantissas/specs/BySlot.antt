@@ -1,0 +1,79 @@
+-- Mantissa bits by channel: the bits that each slot's mantissas take. The widths that the walk goes by are one list; cut where the slots' bins end, each
+-- piece is a slot's, so that the bits of a group count to the slot of its first member. `proofs/BySlot.antt` proves `BitsBySlot`.
+use mathlib.Core.Bool.{Bool, false, _||_, cond}
+use mathlib.Core.List.{List, [], _∷_}
+use mathlib.Core.Path.{_≡_, refl}
+use Prim.Native.Nat.{ℕ, _+_, _-_, _≤_}
+use lib.Dec.{eqb}
+use lib.IntN.{ℤ}
+use lib.ListN.{take, drop}
+use Rattle.alloc.specs.Listed.{from}
+use Rattle.syntax.specs.declared.Role.the-variants.{Mantissas}
+use Rattle.syntax.specs.Grammar.{oneRoled}
+use Rattle.syntax.specs.Names as Name
+use Rattle.syntax.specs.Run.{spanning, Spot, reached, sum, row, run}
+use Rattle.blocks.specs.declared.AllocState.{AllocState}
+use Rattle.blocks.specs.declared.Coupling.{Coupling}
+use Rattle.mantissas.specs.Counts.{noCounts, countedAll, plus, widthOf, openAfter}
+use Rattle.mantissas.specs.Mantissas.{noneOpen, widths, silent, partPointers, allPointers, mantissas}
+use Rattle.mantissas.specs.Parts.{part, parts}
+use Rattle.mantissas.specs.declared.Counts.{Counts}
+use Rattle.mantissas.specs.declared.Part.{Part}
+
+-- the bits of one slot
+unfoldable pub bitsIn : (slot : ℕ) → List Part → (ws : List ℕ) → ℕ
+bitsIn slot [] ws = 0
+bitsIn slot (p ∷ ps) ws =
+    let bins = p .end - p .start in
+    cond (eqb (p .slot) slot) (sum (take bins ws)) 0 + bitsIn slot ps (drop bins ws)
+
+-- of the seven
+unfoldable pub bySlot : List Part → (ws : List ℕ) → List ℕ
+bySlot ps ws = from 0 7 (λ slot. bitsIn slot ps ws)
+
+-- the pieces of a block's walk, and the seven counts of the block
+abbrev pub walkedPieces : (fscod : ℕ) → AllocState → List (List ℤ) → List Part → List ℕ
+walkedPieces fscod st exps ps = widths noneOpen (allPointers fscod st exps (silent (st .offsets) ps) ps)
+
+abbrev pub slotBits : (fscod nfchans : ℕ) (lfeon : Bool) → Coupling → (ends : List ℕ) → AllocState → List (List ℤ) → List ℕ
+slotBits fscod nfchans lfeon c ends st exps =
+    let ps = parts nfchans lfeon c ends in
+    bySlot ps (walkedPieces fscod st exps ps)
+
+abbrev pub used : (slot : ℕ) → List Part → Bool
+used slot [] = false
+used slot (p ∷ ps) = eqb (p .slot) slot || used slot ps
+
+-- ---- without a walk: a slot takes the bits by which the total grows
+
+abbrev pub ownCounts : (fscod : ℕ) → AllocState → List (List ℤ) → (quiet : Bool) → Part → Counts
+ownCounts fscod st exps quiet p = countedAll noCounts (partPointers fscod st exps quiet p)
+
+unfoldable pub grownIn : (slot : ℕ) → (own : Part → Counts) → (before : Counts) → List Part → ℕ
+grownIn slot own before [] = 0
+grownIn slot own before (p ∷ ps) =
+    let after = plus before (own p) in
+    cond (eqb (p .slot) slot) (widthOf after - widthOf before) 0 + grownIn slot own after ps
+
+pub record BitsBySlot : Type 0 where
+  -- the seven sum to the walk's width, and so to that of the span that it records
+  pub all : (fscod nfchans : ℕ) (lfeon : Bool) (c : Coupling) (ends : List ℕ) (st : AllocState) (exps : List (List ℤ)) → nfchans ≤ 5
+      → sum (slotBits fscod nfchans lfeon c ends st exps) ≡ sum (walkedPieces fscod st exps (parts nfchans lfeon c ends))
+  pub span : (blk fscod nfchans : ℕ) (lfeon : Bool) (c : Coupling) (ends : List ℕ) (st : AllocState) (exps : List (List ℤ)) → nfchans ≤ 5
+      → (s : List ℕ) (p : Spot) (start : ℕ)
+      → let r = run (mantissas blk fscod nfchans lfeon c ends st exps) s p in
+      r .end ≡ reached start
+      → r .rows ≡ row spanning (oneRoled blk Mantissas Name.mantissas) (p .at) (sum (slotBits fscod nfchans lfeon c ends st exps)) 0 ∷ []
+  -- a slot not in use has none
+  pub none : (slot : ℕ) (ps : List Part) (ws : List ℕ) → used slot ps ≡ false → bitsIn slot ps ws ≡ 0
+  -- what mantissas take after others follows from the counts of both
+  pub grows : (before : Counts) (baps : List ℕ) → sum (widths (openAfter before) baps) ≡ widthOf (plus before (countedAll noCounts baps)) - widthOf before
+  -- so a slot's bits follow from the counts of each slot by itself
+  pub counted : (slot fscod : ℕ) (st : AllocState) (exps : List (List ℤ)) (quiet : Bool) (ps : List Part)
+      → bitsIn slot ps (widths noneOpen (allPointers fscod st exps quiet ps)) ≡ grownIn slot (ownCounts fscod st exps quiet) noCounts ps
+
+-- ---- an example: two channels of three bins each; the group of ones and the first pair of fours are begun in channel 0, the second pair in
+-- channel 1
+shared : bySlot (part 0 0 3 ∷ part 1 0 3 ∷ []) (widths noneOpen (1 ∷ 1 ∷ 4 ∷ 1 ∷ 4 ∷ 4 ∷ [])) ≡ 12 ∷ 7 ∷ 0 ∷ 0 ∷ 0 ∷ 0 ∷ 0 ∷ []
+unfolding bySlot bitsIn from sum widths
+shared = refl

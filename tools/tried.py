@@ -2,11 +2,11 @@
 """Frames whose listing by the definition is compared with the Rust's: writes crates/ac3/proofs/Tried.antt from tools/frames.txt.
 
 usage: tools/tried.py ANSWER < tools/frames.txt > crates/ac3/proofs/Tried.antt
-ANSWER is the Rust's listing program. frames.txt has, to a line:
+ANSWER is the judge's listing program; every number that is compared comes from it. frames.txt has, to a line:
   = STATEMENT          starts a statement
   # TEXT               says what the next frame is for
-  NAME ROWS HEX ..     a frame, the rows of room, and if it is accepted the Rust's summary (21 numbers)"""
-import glob, os, re, subprocess, sys
+  NAME ROWS HEX        a frame, and the rows of room"""
+import os, re, subprocess, sys
 
 ROOT = os.path.dirname(os.path.dirname(os.path.abspath(__file__)))
 HEAD = """-- Frames on which the definition gives what the Rust gives, as `specs/Listing.antt` says it in short.
@@ -14,7 +14,7 @@ HEAD = """-- Frames on which the definition gives what the Rust gives, as `specs
 use mathlib.Core.List.{List, [], _∷_, _++_}
 use mathlib.Core.Path.{_≡_, refl}
 use Prim.Native.Nat.{ℕ}"""
-MANTISSAS = 111
+SUMMARY = 21
 
 
 def checksum(rows):
@@ -25,30 +25,45 @@ def checksum(rows):
     return h
 
 
-def expected(answer, data, room, summary):
-    """What the Rust answers; with less room than its rows, refusal 7 where the first row that is missing is met."""
-    lines = subprocess.run([answer], input=data, capture_output=True, check=True).stdout.decode().splitlines()
-    rows = [[int(n) for n in line.split()] for line in lines[:-1]]
-    if room < len(rows):
-        name, *_, at, width, _ = rows[room]
-        return [room, at + width if name == MANTISSAS else at, checksum(rows[:room]), 7]
-    word, *numbers = lines[-1].split()
-    a, b, c = map(int, numbers)
+def expected(answer, data, room):
+    """What the Rust answers: rows, bit, checksum, refusal; and for an accepted frame the rest of its summary."""
+    run = subprocess.run([answer, "--rows", room, "--summary"], input=data, capture_output=True, check=True)
+    *lines, last, summary = run.stdout.decode().splitlines()
+    rows = [[int(n) for n in line.split()] for line in lines]
+    word, *numbers = last.split()
+    summary = [int(n) for n in summary.split()[1:]]
+    assert len(summary) == SUMMARY
     if word == "refused":
-        return [b, c, checksum(rows), a]
-    assert summary[:3] == [a, b, c], "summary of another frame"
-    return [a, c, checksum(rows), 0, b] + summary[3:]
+        number, count, bit = map(int, numbers)
+        assert not any(summary), "a refusal's summary is all zeros"
+        return [count, bit, checksum(rows), number]
+    count, size, bit, *rest = summary
+    return [count, bit, checksum(rows), 0, size] + rest
+
+
+CRATES = ("bits", "syntax", "tables", "alloc", "blocks", "exponents", "mantissas", "header", "channels", "ac3")
+
+
+def used(start):
+    """The specs files that a listing computes with, as (crate, file): what `start` uses, and what that uses."""
+    found, todo = set(), [start]
+    while todo:
+        crate, file = todo.pop()
+        path = f"{ROOT}/crates/{crate}/specs/{file}.antt"
+        if crate in CRATES and (crate, file) not in found and os.path.exists(path):
+            found.add((crate, file))
+            todo += re.findall(r"^use Rattle·(\w+)(?:·specs)?\.specs\.(\w+)\b", open(path).read(), re.M)
+    return found
 
 
 def unfoldable():
     """All that a listing computes with, as module: names."""
     found = {}
-    for crate in ("bits", "syntax", "tables", "alloc", "blocks", "exponents", "mantissas", "header", "channels", "ac3"):
+    for crate, file in sorted(used(("ac3", "Listing")), key=lambda f: (CRATES.index(f[0]), f[1])):
         own = "ac3·specs.specs" if crate == "ac3" else f"{crate}.specs"
-        for path in sorted(glob.glob(f"{ROOT}/crates/{crate}/specs/*.antt")):
-            names = re.findall(r"^\s*unfoldable pub (\S+) :", open(path).read(), re.M)
-            if names and "Counts" not in path:
-                found[f"Rattle.{own}.{os.path.basename(path)[:-5]}"] = names
+        names = re.findall(r"^\s*unfoldable pub (\S+) :", open(f"{ROOT}/crates/{crate}/specs/{file}.antt").read(), re.M)
+        if names:
+            found[f"Rattle.{own}.{file}"] = names
     return found
 
 
@@ -69,11 +84,11 @@ def main():
         elif line.startswith("# "):
             comment = line[2:]
         elif line:
-            name, room, hexed, *summary = line.split()
+            name, room, hexed = line.split()
             hexed = hexed.replace("-", "")
             if not any(f[0] == name for f in frames):
                 frames.append((name, hexed, comment))
-            want = expected(sys.argv[1], bytes.fromhex(hexed), int(room), [int(n) for n in summary])
+            want = expected(sys.argv[1], bytes.fromhex(hexed), room)
             statements[-1][1].append(f"(listing {room} {name} ≡ {' ∷ '.join(map(str, want))} ∷ [])")
     print(HEAD)
     for module, ns in names.items():

@@ -7,14 +7,12 @@ use Rattle.bits.specs.Bits.{bitAt, value, bitsBefore, sameBits, rangeEq}
 use Rattle.syntax.specs.Grammar.{_>>=_, turns}
 use Rattle.syntax.specs.Numbers.{shown}
 use Rattle.syntax.specs.Place.{except, exec, andThen, flatten, landing, finish}
-use Rattle.syntax.specs.Reads.{from as Reads-from, walked}
 use Rattle.syntax.specs.Run.{roomCheck, check, sum, unless, run, continue}
 use Rattle.tables.specs.Tables.{nfchans, words48, words44, frameBytes, slowDecay, fastDecay, slowGain, knee, floor, fastGain, bandEnd, logAdd, hearing, bap, bapBits}
 use Rattle.alloc.specs.Alloc.{logadd, lowcomp, snrOffset, level, kept, threshold, addressOf, bapOf, bandSum, bandOf, startOf, endOf, bandLevel, lowAfter, rises, fallTo, overKnee, maskOf}
 use Rattle.alloc.specs.Delta.{deltaOf, passed, deltaIn, deltaSum}
 use Rattle.alloc.specs.Excite.{startLeak, fallBy, fallLeak, leakStep, leakAfter, fallAfter}
-use Rattle.alloc.specs.Listed.{from as Listed-from, table, excitations, pointerList}
-use Rattle.alloc.specs.Steps.{relative, stepOf, addressFrom, stepAt}
+use Rattle.alloc.specs.Listed.{from, table, excitations, pointerList}
 use Rattle.blocks.specs.Delta.{deltaCode, channelCode, segment, newDeltas, slotDeltas, codedDeltas, deltas}
 use Rattle.blocks.specs.Parameters.{newCurve, curve, fineOffset, channelOffset, newOffsets, offsets, newLeak, couplingLeak}
 use Rattle.exponents.specs.Exponents.{step, group, exponentSet, slotExponents, channelExponents, exponents}
@@ -73,6 +71,25 @@ coupled-surround =
     bytes 64 0x0b77535f02429c384addd7cc1b44940b7c261f111c5a1795fface896a16d5c49c1131d3462fb04a6a8a4efde9400a181870547550f0000000000000000000000
     ++ bytes 64 0x00000000000000000000000000000000000000559a25bfa178002334734915d562b59081722f63b523db2609628c194893fbc003bea8e7d4cb6f2b2000d2d7df
     ++ bytes 32 0x21cba43ea46caf52b3d4182f2ed53f3e8c8c1a24001a865af19f8fc9c0020042
+
+-- 3/0, 32 kHz, coupling in every block
+abbrev three-front : List ℕ
+three-front =
+    bytes 64 0x0b77bc0c80427263afc04988eaa6993f8054f556e26c955654eb5f08983b61b1c24204cbb6050d62bd2c7d41536af48278e0e26d29afa2c237aee61eed443dec
+    ++ bytes 64 0xfda4b36000372dcdb5130ce984529dbb443000236dc91c8aae3c8efcf99cf77300037015fd5da2a50257d70f59bff8400008d44cb187226a95231ed8c001e06e
+    ++ bytes 64 0x4817f779a4b55867d278094ba4a1ba72d6a58f74719c7da8ef7237ad0a5bcb7a7cd87420162bb3d6562f8590ce6c5630ab4b56b37375fd7dfbd7a95dabb8021c
+
+-- 3/1, bsid 6
+abbrev one-surround : List ℕ
+one-surround =
+    bytes 64 0x0b772a090030aae3179f0c8fe5fe122790997983b7aa6a5e6409ab807dfac99ce0bd703ac36c86a016f4caa846a5d3d5f3a85e763f0051592f8611488863b383
+    ++ bytes 64 0x00005a7a9c18da000206941cd66a0000192dfbc70a0000b2217ba56ce00053a33986c80981d95acd467b755ba45dd69ab77237a0002a51bf094ae5114518a728
+
+-- 2/2 with LFE, coupling in every block
+abbrev two-surround : List ℕ
+two-surround =
+    bytes 64 0x0b7777470046c5be70022fc87041e71fed9573ac452307286f035e18a08203887704a4bcb34b0a8468aaa64dd108522cc69a5a5850ba9bcf902f946fb2ad7e60
+    ++ bytes 64 0x54a15ae7ba83790000052c188e28ea02ff00004aa60e48c84165408000001f330e026c98c1f4742000046456012593f74a779a36000ce4c6256da3e00000edd0
 
 -- coupling in one block only, coordinates sent
 abbrev some-coupled : List ℕ
@@ -156,7 +173,7 @@ deltas-stay =
     ++ bytes 64 0x00000000000000000000000000000000000000000000000000000000000000000000000011f8fc000efbdb601007182e1f000ddd8f82c4b0e12567256476539a
     ++ bytes 10 0xed8fa6e501108a8510a3
 
--- document 01's listing
+-- the example of docs/FORMAT.md
 abbrev fscod-3 : List ℕ
 fscod-3 =
     bytes 6 0x0b770000c000
@@ -316,6 +333,9 @@ accepted :
     × (listing 2048 eight-segments ≡ 236 ∷ 605 ∷ 70318218597138012 ∷ 0 ∷ 128 ∷ 6 ∷ 0 ∷ 1 ∷ 0 ∷ 6 ∷ 73 ∷ 327 ∷ 364 ∷ 395 ∷ 426 ∷ 568 ∷ 327 ∷ 364 ∷ 395 ∷ 426 ∷ 568 ∷ 605 ∷ 0 ∷ [])
     × (listing 2048 surround ≡ 364 ∷ 1395 ∷ 1348723599992762923 ∷ 0 ∷ 384 ∷ 8 ∷ 7 ∷ 1 ∷ 0 ∷ 0 ∷ 150 ∷ 554 ∷ 668 ∷ 893 ∷ 992 ∷ 1251 ∷ 554 ∷ 668 ∷ 893 ∷ 992 ∷ 1251 ∷ 1395 ∷ 1 ∷ [])
     × (listing 2048 coupled-surround ≡ 353 ∷ 1272 ∷ 2141540170222237398 ∷ 0 ∷ 160 ∷ 8 ∷ 4 ∷ 1 ∷ 0 ∷ 6 ∷ 132 ∷ 665 ∷ 870 ∷ 943 ∷ 1112 ∷ 1205 ∷ 665 ∷ 870 ∷ 943 ∷ 1112 ∷ 1205 ∷ 1272 ∷ 0 ∷ [])
+    × (listing 2048 three-front ≡ 230 ∷ 1089 ∷ 1505871635078138061 ∷ 0 ∷ 192 ∷ 8 ∷ 3 ∷ 0 ∷ 2 ∷ 6 ∷ 81 ∷ 511 ∷ 625 ∷ 739 ∷ 855 ∷ 979 ∷ 438 ∷ 552 ∷ 666 ∷ 782 ∷ 906 ∷ 1016 ∷ 0 ∷ [])
+    × (listing 2048 one-surround ≡ 201 ∷ 788 ∷ 1982974951175991881 ∷ 0 ∷ 128 ∷ 6 ∷ 5 ∷ 0 ∷ 0 ∷ 0 ∷ 84 ∷ 495 ∷ 560 ∷ 617 ∷ 674 ∷ 731 ∷ 460 ∷ 525 ∷ 582 ∷ 639 ∷ 696 ∷ 753 ∷ 1 ∷ [])
+    × (listing 2048 two-surround ≡ 296 ∷ 979 ∷ 1564907012821007100 ∷ 0 ∷ 128 ∷ 8 ∷ 6 ∷ 1 ∷ 0 ∷ 6 ∷ 75 ∷ 539 ∷ 617 ∷ 695 ∷ 785 ∷ 875 ∷ 509 ∷ 587 ∷ 665 ∷ 755 ∷ 845 ∷ 949 ∷ 0 ∷ [])
     × (listing 2048 some-coupled ≡ 252 ∷ 820 ∷ 2161313733691180710 ∷ 0 ∷ 128 ∷ 8 ∷ 2 ∷ 1 ∷ 0 ∷ 1 ∷ 96 ∷ 489 ∷ 632 ∷ 744 ∷ 760 ∷ 792 ∷ 489 ∷ 632 ∷ 744 ∷ 760 ∷ 792 ∷ 820 ∷ 1 ∷ [])
     × (listing 2048 phase-flags ≡ 191 ∷ 431 ∷ 1419739273287334406 ∷ 0 ∷ 128 ∷ 4 ∷ 2 ∷ 0 ∷ 0 ∷ 6 ∷ 67 ∷ 279 ∷ 310 ∷ 341 ∷ 369 ∷ 400 ∷ 279 ∷ 310 ∷ 341 ∷ 369 ∷ 400 ∷ 431 ∷ 0 ∷ [])
     × (listing 2048 pause ≡ 377 ∷ 2028 ∷ 318877698429439663 ∷ 0 ∷ 256 ∷ 6 ∷ 0 ∷ 1 ∷ 0 ∷ 3 ∷ 231 ∷ 590 ∷ 970 ∷ 1439 ∷ 1712 ∷ 1788 ∷ 485 ∷ 898 ∷ 1417 ∷ 1690 ∷ 1773 ∷ 2028 ∷ 0 ∷ [])
@@ -328,8 +348,8 @@ accepted :
     × (listing 2048 widest ≡ 207 ∷ 1088 ∷ 137433663604931848 ∷ 0 ∷ 138 ∷ 5 ∷ 1 ∷ 0 ∷ 1 ∷ 0 ∷ 100 ∷ 269 ∷ 458 ∷ 545 ∷ 684 ∷ 1046 ∷ 269 ∷ 458 ∷ 545 ∷ 580 ∷ 1046 ∷ 1088 ∷ 1 ∷ [])
     × (listing 2048 other-names-1 ≡ 563 ∷ 2776 ∷ 1825383984366266164 ∷ 0 ∷ 348 ∷ 6 ∷ 0 ∷ 0 ∷ 1 ∷ 6 ∷ 147 ∷ 1544 ∷ 1604 ∷ 1712 ∷ 1949 ∷ 2596 ∷ 1544 ∷ 1604 ∷ 1712 ∷ 1949 ∷ 2596 ∷ 2776 ∷ 0 ∷ [])
     × (listing 2048 deltas-stay ≡ 150 ∷ 1098 ∷ 1199251214092976941 ∷ 0 ∷ 138 ∷ 8 ∷ 1 ∷ 0 ∷ 1 ∷ 0 ∷ 138 ∷ 817 ∷ 850 ∷ 892 ∷ 926 ∷ 1044 ∷ 802 ∷ 835 ∷ 877 ∷ 911 ∷ 1009 ∷ 1063 ∷ 1 ∷ [])
-unfolding bitAt value bitsBefore sameBits rangeEq _>>=_ turns shown except exec andThen flatten landing finish Reads-from walked roomCheck check sum unless run continue nfchans words48 words44 frameBytes slowDecay fastDecay slowGain knee floor fastGain bandEnd logAdd hearing bap bapBits logadd lowcomp snrOffset level kept threshold addressOf bapOf bandSum bandOf startOf endOf bandLevel lowAfter rises fallTo overKnee maskOf deltaOf passed deltaIn deltaSum startLeak fallBy fallLeak leakStep leakAfter fallAfter Listed-from table excitations pointerList relative stepOf addressFrom stepAt deltaCode channelCode segment newDeltas slotDeltas codedDeltas deltas newCurve curve fineOffset channelOffset newOffsets offsets newLeak couplingLeak step group exponentSet slotExponents channelExponents exponents silent pointers allPointers widths mantissas channelParts parts syncinfo programmeInfo alternateInfo timeCodes additionalInfo bsi header howMany coupledChannels joined couplingBands newCoupling couplingStrategy coordinate channelCoordinates phaseFlags couplingCoordinates rematrixing channelStrategies exponentStrategies bandwidth bandwidths channelEnd channelEnds channelFlags dynamicRange skipField allocState allSent audioBlock audio syncframe answered bytes plusOne checksum verdict short
-accepted = (refl, refl, refl, refl, refl, refl, refl, refl, refl, refl, refl, refl, refl, refl, refl, refl, refl, refl)
+unfolding bitAt value bitsBefore sameBits rangeEq _>>=_ turns shown except exec andThen flatten landing finish roomCheck check sum unless run continue nfchans words48 words44 frameBytes slowDecay fastDecay slowGain knee floor fastGain bandEnd logAdd hearing bap bapBits logadd lowcomp snrOffset level kept threshold addressOf bapOf bandSum bandOf startOf endOf bandLevel lowAfter rises fallTo overKnee maskOf deltaOf passed deltaIn deltaSum startLeak fallBy fallLeak leakStep leakAfter fallAfter from table excitations pointerList deltaCode channelCode segment newDeltas slotDeltas codedDeltas deltas newCurve curve fineOffset channelOffset newOffsets offsets newLeak couplingLeak step group exponentSet slotExponents channelExponents exponents silent pointers allPointers widths mantissas channelParts parts syncinfo programmeInfo alternateInfo timeCodes additionalInfo bsi header howMany coupledChannels joined couplingBands newCoupling couplingStrategy coordinate channelCoordinates phaseFlags couplingCoordinates rematrixing channelStrategies exponentStrategies bandwidth bandwidths channelEnd channelEnds channelFlags dynamicRange skipField allocState allSent audioBlock audio syncframe answered bytes plusOne checksum verdict short
+accepted = (refl, refl, refl, refl, refl, refl, refl, refl, refl, refl, refl, refl, refl, refl, refl, refl, refl, refl, refl, refl, refl)
 
 refused :
     (listing 2048 fscod-3 ≡ 4 ∷ 40 ∷ 29579453722108996 ∷ 3 ∷ [])
@@ -358,5 +378,5 @@ refused :
     × (listing 2048 refusal-18 ≡ 44 ∷ 155 ∷ 1939675474280980748 ∷ 18 ∷ [])
     × (listing 2048 refusal-19 ≡ 44 ∷ 155 ∷ 1757649603618528351 ∷ 19 ∷ [])
     × (listing 2048 refusal-20 ≡ 103 ∷ 398 ∷ 622370867021432412 ∷ 20 ∷ [])
-unfolding bitAt value bitsBefore sameBits rangeEq _>>=_ turns shown except exec andThen flatten landing finish Reads-from walked roomCheck check sum unless run continue nfchans words48 words44 frameBytes slowDecay fastDecay slowGain knee floor fastGain bandEnd logAdd hearing bap bapBits logadd lowcomp snrOffset level kept threshold addressOf bapOf bandSum bandOf startOf endOf bandLevel lowAfter rises fallTo overKnee maskOf deltaOf passed deltaIn deltaSum startLeak fallBy fallLeak leakStep leakAfter fallAfter Listed-from table excitations pointerList relative stepOf addressFrom stepAt deltaCode channelCode segment newDeltas slotDeltas codedDeltas deltas newCurve curve fineOffset channelOffset newOffsets offsets newLeak couplingLeak step group exponentSet slotExponents channelExponents exponents silent pointers allPointers widths mantissas channelParts parts syncinfo programmeInfo alternateInfo timeCodes additionalInfo bsi header howMany coupledChannels joined couplingBands newCoupling couplingStrategy coordinate channelCoordinates phaseFlags couplingCoordinates rematrixing channelStrategies exponentStrategies bandwidth bandwidths channelEnd channelEnds channelFlags dynamicRange skipField allocState allSent audioBlock audio syncframe answered bytes plusOne checksum verdict short
+unfolding bitAt value bitsBefore sameBits rangeEq _>>=_ turns shown except exec andThen flatten landing finish roomCheck check sum unless run continue nfchans words48 words44 frameBytes slowDecay fastDecay slowGain knee floor fastGain bandEnd logAdd hearing bap bapBits logadd lowcomp snrOffset level kept threshold addressOf bapOf bandSum bandOf startOf endOf bandLevel lowAfter rises fallTo overKnee maskOf deltaOf passed deltaIn deltaSum startLeak fallBy fallLeak leakStep leakAfter fallAfter from table excitations pointerList deltaCode channelCode segment newDeltas slotDeltas codedDeltas deltas newCurve curve fineOffset channelOffset newOffsets offsets newLeak couplingLeak step group exponentSet slotExponents channelExponents exponents silent pointers allPointers widths mantissas channelParts parts syncinfo programmeInfo alternateInfo timeCodes additionalInfo bsi header howMany coupledChannels joined couplingBands newCoupling couplingStrategy coordinate channelCoordinates phaseFlags couplingCoordinates rematrixing channelStrategies exponentStrategies bandwidth bandwidths channelEnd channelEnds channelFlags dynamicRange skipField allocState allSent audioBlock audio syncframe answered bytes plusOne checksum verdict short
 refused = (refl, refl, refl, refl, refl, refl, refl, refl, refl, refl, refl, refl, refl, refl, refl, refl, refl, refl, refl, refl, refl, refl, refl, refl, refl, refl)

@@ -16,7 +16,7 @@ WALK = '''            conventional(cur, &bap[ch], 0, endmant[ch], &mut g)?;
 '''
 RECORD = '        let at = ROW * self.count;\n'
 SLIPS = [  # what, file, old, new
-    # document 01's "slips to shut out"
+    # the slips that docs/FORMAT.md shuts out
     ('coupling range to its last bin', CUT, 'let cplend = 37 + 12 * (cplendf + 3);', 'let cplend = 37 + 12 * (cplendf + 3) - 1;'),
     ('mantissa group open across blocks', CUT, '        let mut g = Groups::default();\n', '        if blk == 0 { g = Groups::default(); }\n'),
     ('mantissa group closed at each channel', CUT, WALK, '            g = Groups::default();\n' + WALK),

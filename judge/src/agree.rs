@@ -175,7 +175,7 @@ fn agrees_with_published(ample: &Ample, data: &[u8]) -> Result<(), String> {
             };
             same("refusal", &no.text, &text)?;
             if no.number == 0 {
-                return Err(format!("document 01: cannot happen: {text}"));
+                return Err(format!("cannot happen: {text}"));
             }
             // A refusal stands where the last row ends, but for a mantissa that does not fit.
             if got.bit as i32 != end && !(no.number == 6 && text.starts_with("mantissa ")) {
@@ -187,7 +187,7 @@ fn agrees_with_published(ample: &Ample, data: &[u8]) -> Result<(), String> {
     }
 }
 
-/// Document 01's "coordinates sent", read off the rows of an accepted frame.
+/// The summary's "coordinates sent", read off the rows of an accepted frame.
 fn coordinates_sent(rows: &[i32]) -> bool {
     let (cplinu, cplcoe) = (names::number("cplinu"), names::number("cplcoe"));
     let first_coupled = rows

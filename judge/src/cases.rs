@@ -1,4 +1,4 @@
-//! The generator of inputs, the same for the same seed and size: document 01's example, corner
+//! The generator of inputs, the same for the same seed and size: the contract's example, corner
 //! cases, an encoder's frames and drawn frames; whole, damaged, truncated, moved to a later place
 //! of a longer capture, moved across the frame's end, and with too little room. Every input
 //! passes the checks of `agree`.
@@ -254,7 +254,7 @@ impl<'s> Generator<'s> {
         self.swept[2] += self.calls - placed;
     }
 
-    /// What document 01 asks to run and compare: chbwcod 60 and 61, rows one too few, a frame one byte short; the mantissas of these frames
+    /// What docs/FORMAT.md asks to run and compare: chbwcod 60 and 61, rows one too few, a frame one byte short; the mantissas of these frames
     /// have no width.
     pub fn run_and_compared(&mut self) {
         for chbwcod in [60, 61] {
@@ -319,8 +319,7 @@ impl<'s> Generator<'s> {
         }
     }
 
-    /// Request E6: other values in every field whose value never steers give the same rows but
-    /// for those values.
+    /// Other values in every field whose value never steers give the same rows but for those values.
     fn free_values(&mut self, frame: &[u8], rows: &[i32]) {
         let mut edited = frame.to_vec();
         let mut expected = rows.to_vec();
@@ -447,7 +446,7 @@ impl<'s> Generator<'s> {
         self.at_zero(frame, Some(Edit { at, width, value }));
     }
 
-    /// Document 01's own example, and inputs too short to hold a header.
+    /// The example of docs/FORMAT.md, and inputs too short to hold a header.
     fn example(&mut self) {
         let example = [0x0B, 0x77, 0, 0, 0xC0, 0];
         for keep in 0..=6 {
@@ -479,7 +478,7 @@ impl<'s> Generator<'s> {
             self.rewrite(&corner.capture, &rows, amounts.rewritten[0]);
             self.full_at(&corner.capture, &rows, 6);
             if self.judge.ample(&corner.capture, 0).answer.verdict.is_ok() {
-                for _ in 0..3 {
+                for _ in 0..4 {
                     self.overrun(&corner.capture, &rows);
                 }
                 self.free_values(&corner.capture, &rows);

@@ -1,5 +1,5 @@
-//! The corner cases: for each point at which the standard, document 01 and the Rust differ, or one
-//! of them says nothing, the smallest input that shows it; and one for each place a refusal has.
+//! The corner cases: for each point at which the standard, the contract (docs/FORMAT.md) and the Rust
+//! differ, or one of them says nothing, the smallest input that shows it; and one for each place a refusal has.
 //!
 //! corners.txt is printed from this list, and docs/DIFFERENCES.md cites it by name.
 
@@ -9,7 +9,7 @@ use crate::craft::{sized, small, Asked};
 use crate::cut::{answer, MANY_ROWS};
 use crate::hex;
 use crate::listing::last_line;
-use crate::names::ROW;
+use crate::names::{number, ROW};
 
 pub struct Corner {
     pub name: &'static str,
@@ -18,7 +18,7 @@ pub struct Corner {
     pub place: usize,
     /// Room in rows; none: ample.
     pub rows: Option<usize>,
-    /// The number that document 01 gives, 0 for acceptance.
+    /// The number that docs/FORMAT.md gives, 0 for acceptance.
     pub number: u32,
 }
 
@@ -150,6 +150,42 @@ fn coupling_delta(rule: impl Fn(&Asked) -> Option<u32>) -> Vec<u8> {
     })
 }
 
+/// The frame with every bit of its mantissas set.
+fn mantissas_of_ones(mut frame: Vec<u8>) -> Vec<u8> {
+    let mut room = vec![0; MANY_ROWS * ROW];
+    let rows = answer(&frame, 0, &mut room).rows;
+    let mantissas = number("mantissas");
+    for row in room.chunks(ROW).take(rows).filter(|r| r[0] == mantissas) {
+        for at in row[5]..row[5] + row[6] {
+            bits::set(&mut frame, at as usize, 1, 1);
+        }
+    }
+    frame
+}
+
+/// The most rows that a frame has: proved of every frame (crates/ac3/specs/RowBound.antt), and reached by `most_rows`.
+pub const MOST_ROWS: usize = 4067;
+
+/// Everything that can be sent is sent in every block, in as many fields as it can be.
+fn most_rows() -> Vec<u8> {
+    sized(2, 36, &|a| match a.name {
+        "bsid" => Some(6),
+        "acmod" => Some(7),
+        "lfeon" | "compre" | "langcode" | "audprodie" | "xbsi1e" | "xbsi2e" | "addbsie" => Some(1),
+        "dynrnge" | "cplstre" | "cplinu" | "cplcoe" | "cplexpstr" | "chexpstr" | "lfeexpstr" => {
+            Some(1)
+        }
+        "baie" | "snroffste" | "cplleake" | "deltbaie" | "cpldeltbae" | "deltbae" | "skiple" => {
+            Some(1)
+        }
+        "chincpl" => Some((a.index < 2).into()),
+        "cplendf" => Some(15),
+        "chbwcod" => Some(60),
+        "cpldeltnseg" | "deltnseg" => Some(7),
+        _ => None,
+    })
+}
+
 pub fn all() -> Vec<Corner> {
     let mut list = Vec::new();
     list.extend(header());
@@ -170,7 +206,12 @@ fn header() -> Vec<Corner> {
     let mut with_more = plain.clone();
     with_more.extend([0xFF; 3]);
     vec![
-        corner("example", 3, example.clone(), "document 01's example"),
+        corner(
+            "example",
+            3,
+            example.clone(),
+            "the example of docs/FORMAT.md",
+        ),
         corner(
             "fscod-waits-for-frmsizecod",
             7,
@@ -316,7 +357,7 @@ fn coupling_strategy() -> Vec<Corner> {
             "one-sub-band",
             0,
             pair(5, |_| None),
-            "document 01's (f): cplbegf 5, cplendf 3",
+            "value (f) of docs/FORMAT.md: cplbegf 5, cplendf 3",
         ),
         corner(
             "range-before-channels",
@@ -372,6 +413,16 @@ fn coupling_strategy() -> Vec<Corner> {
                 _ => None,
             }),
             "channel 2 joins in block 1 with cplcoe 0: coordinates sent is yes",
+        ),
+        corner(
+            "coordinates-through-pause",
+            0,
+            pair(3, |a| match (a.name, a.block) {
+                ("cplcoe", 0) | ("cplstre", 1 | 2) | ("cplinu", 2) => Some(1),
+                ("chexpstr", 1) => Some(3),
+                _ => None,
+            }),
+            "coupling comes back in block 2 with cplcoe 0: the coordinates of block 0 stay, coordinates sent is yes",
         ),
         corner(
             "banding-kept",
@@ -826,6 +877,12 @@ fn allocation() -> Vec<Corner> {
             "bands 31 to 45, then 77 to 91",
         ),
         corner(
+            "delta-lengths-past-50",
+            0,
+            sent_delta(&|a| (a.name == "deltnseg").then_some(3)),
+            "four segments of 15 bands from band 0 on: 60 bands",
+        ),
+        corner(
             "delta-of-length-0",
             0,
             sent_delta(&|a| (a.name == "deltlen").then_some(0)),
@@ -880,6 +937,17 @@ fn allocation() -> Vec<Corner> {
             "the leak was never sent and the mantissas do not fit: 20 is met first",
         ),
         corner("leak-not-needed", 0, pair(5, |_| None), "all SNR offsets 0: the leak is not needed"),
+        corner(
+            "leak-through-pause",
+            0,
+            pair(3, |a| match (a.name, a.block) {
+                ("cplstre", 1 | 2) | ("cplinu", 2) | ("cplleake", 0) => Some(1),
+                ("csnroffst", _) => Some(1),
+                ("chexpstr", 1) => Some(3),
+                _ => None,
+            }),
+            "coupling comes back in block 2 with cplleake 0: the leak of block 0 is in force",
+        ),
         corner(
             "coupling-offsets-through-pause",
             0,
@@ -976,6 +1044,29 @@ fn tail_and_room() -> Vec<Corner> {
             "block 1 ends past five eighths of the frame (bit 640)",
         ),
         corner(
+            "block-5-over-three-eighths",
+            0,
+            small(&|a| match (a.name, a.block) {
+                ("fgaincod", _) => Some(7),
+                ("snroffste", 5) => Some(1),
+                ("csnroffst", 5) => Some(9),
+                _ => None,
+            }),
+            "block 5's mantissas alone take more than three eighths of the frame (384 bits)",
+        ),
+        corner(
+            "mantissa-codes-too-large",
+            0,
+            mantissas_of_ones(small(&|a| match (a.name, a.block) {
+                ("fgaincod", _) => Some(7),
+                ("snroffste", 1 | 2) => Some(1),
+                ("csnroffst", 0) => Some(1),
+                ("csnroffst", 1) => Some(5),
+                _ => None,
+            })),
+            "every bit of the mantissas is 1: pointers 1 in block 0 (codes 31, above 26), 2, 3 and 4 in block 1 (codes 127, above 124 and 120)",
+        ),
+        corner(
             "skip-nothing",
             0,
             skip(0),
@@ -1057,6 +1148,20 @@ fn tail_and_room() -> Vec<Corner> {
             "the same as the listing program sees it",
         )
         .rows(2048),
+        corner(
+            "most-rows",
+            0,
+            most_rows(),
+            "as many rows as a frame can have",
+        )
+        .rows(MOST_ROWS),
+        corner(
+            "most-rows-one-too-few",
+            7,
+            most_rows(),
+            "the same with one row fewer: none for the last mantissas",
+        )
+        .rows(MOST_ROWS - 1),
     ]
 }
 

@@ -286,7 +286,7 @@ pub fn say(goal: &Goal) -> String {
     }
 }
 
-/// What document 01 asks to run and compare, by name.
+/// What docs/FORMAT.md asks to run and compare, by name.
 pub fn by_name() -> [(&'static str, Goal); 5] {
     [
         ("chbwcod 60", (VALUE, number("chbwcod"), 60)),

@@ -1,7 +1,7 @@
 //! The judge: the published Rust parser as the oracle for the port, with what is needed to ask it.
 //!
 //! The ten modules under `ddpmeta/` are the published files, byte for byte (a test holds them
-//! against their checksums). `cut` answers what document 01, the scope, asks of a parse: it is
+//! against their checksums). `cut` answers what the contract, docs/FORMAT.md, asks of a parse: it is
 //! `ac3::parse` stopped where `audio_end` is set, with rows, refusal numbers and the room rule.
 //! `agree` holds the two against each other on every input that is made here.
 

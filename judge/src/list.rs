@@ -13,10 +13,10 @@ pub const HEAD: &str = "\
 # KEEP      then keep this many bytes of the capture
 # PLACE     the byte at which to parse
 # NUMBERS   the length of the lent room; its number i is 1000000 + i before the call
-# NUMBER    0: accepted, else the refusal; ROWS and BIT as the scope says, BIT being audio_end if accepted
+# NUMBER    0: accepted, else the refusal; ROWS and BIT as docs/FORMAT.md says, BIT being audio_end if accepted
 # CHECKSUM  over every number of the room after the call: h = 2166136261, then for each number, as its four
 #           bytes lowest first, h = (h XOR byte) * 16777619 mod 2^32; in decimal
-# SUMMARY   on acceptance, the 21 numbers of the summary in the scope's order; yes is 1
+# SUMMARY   on acceptance, the 21 numbers of the summary in the order of docs/FORMAT.md; yes is 1
 ";
 
 /// The checksum over a room's numbers.

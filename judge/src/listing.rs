@@ -1,4 +1,4 @@
-//! The form in which the listing program of document 01 prints an answer.
+//! The form in which the listing program of docs/FORMAT.md prints an answer.
 
 use crate::cut::Answer;
 use crate::names::ROW;

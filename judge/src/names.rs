@@ -48,7 +48,7 @@ pub struct Name {
     pub width: Width,
     pub part: Part,
     pub index: Index,
-    /// In request E6's list of values that never steer the rest.
+    /// Its value never steers the rest: an editor may write another one.
     pub free: bool,
 }
 
@@ -285,7 +285,7 @@ pub fn fits(row: &[i32]) -> bool {
 /// The table of docs/NAMES.md.
 pub fn table() -> String {
     let mut out = String::from(
-        "| No. | Name | Role | Width | Stands in | Index | Programme | Span | Free (E6) |\n\
+        "| No. | Name | Role | Width | Stands in | Index | Programme | Span | Free |\n\
          |---|---|---|---|---|---|---|---|---|\n",
     );
     for (n, name) in (1..).zip(&NAMES) {

@@ -1,4 +1,4 @@
-//! The published `allocate` against an allocation written from document 01's words: one loop over
+//! The published `allocate` against an allocation written from the words of docs/FORMAT.md: one loop over
 //! the bands with the state fast, slow, lowcomp and rising.
 
 use judge::alloc::{allocate, Channel, DeltaSeg, Params};

@@ -1,7 +1,8 @@
-//! The corner cases: each has the number that document 01 gives it, corners.txt is what the program
+//! The corner cases: each has the number that docs/FORMAT.md gives it, corners.txt is what the program
 //! prints, and every case that docs/DIFFERENCES.md shows is one of them, input and answer.
 
 use judge::agree::{Judge, Room};
+use judge::blocks::{allocate_block, AllocState, ExpSet, SlotAlloc};
 use judge::corners::{all, text};
 use judge::names::ROW;
 use std::collections::BTreeSet;
@@ -114,7 +115,7 @@ fn the_published_tail_refuses() {
 }
 
 #[test]
-fn coordinates_sent_is_document_01s() {
+fn coordinates_sent_is_of_the_first_coupled_block() {
     let mut judge = Judge::default();
     let mut sent = |name: &str| {
         let corner = all().into_iter().find(|c| c.name == name).expect(name);
@@ -127,4 +128,57 @@ fn coordinates_sent_is_document_01s() {
         sent("coordinates-of-a-late-channel"),
         "only the first coupled block is looked at"
     );
+    assert!(
+        sent("coordinates-through-pause"),
+        "nor is the one after a pause"
+    );
+}
+
+/// Pointers of the case's blocks 0 and 1, whose mantissas are all ones: 17 groups of pointers 1, then 8 groups
+/// of pointers 2, 21 pointers 3 and 14 groups of pointers 4.
+#[test]
+fn codes_too_large_are_of_all_three_sorts() {
+    let corner = all()
+        .into_iter()
+        .find(|c| c.name == "mantissa-codes-too-large");
+    let capture = corner.expect("listed").capture;
+    let rows = Judge::default().ample(&capture, 0).rows;
+    let mantissas = judge::names::number("mantissas");
+    let of_block = |block: i32| {
+        let row = rows
+            .chunks(ROW)
+            .find(|r| (r[0], r[3]) == (mantissas, block));
+        let row = row.expect("a row in every block");
+        let (at, width) = (row[5] as usize, row[6] as usize);
+        assert!((at..at + width).all(|bit| judge::bits::get(&capture, bit, 1) == 1));
+        width
+    };
+    assert_eq!(
+        [0, 1, 2].map(of_block),
+        [17 * 5, 8 * 7 + 21 * 3 + 14 * 7, 0]
+    );
+    let state = |csnroffst: u8| AllocState {
+        bai: Some([0; 5]),
+        csnroffst: Some(csnroffst),
+        fgaincod: [7; 7],
+        ..AllocState::default()
+    };
+    let exps = ExpSet {
+        exp: vec![0; 256],
+        start: 0,
+        end: 73,
+    };
+    let pointers = |csnroffst: u8| -> BTreeSet<u8> {
+        let slot = SlotAlloc {
+            slot: 0,
+            exps: &exps,
+            start: 0,
+            end: 73,
+            high_efficiency: false,
+        };
+        let bap = allocate_block(&state(csnroffst), 0, &[slot]).expect("allocated");
+        bap[0][..73].iter().copied().collect()
+    };
+    assert_eq!(pointers(1), BTreeSet::from([0, 1]));
+    assert_eq!(pointers(5), BTreeSet::from([2, 3, 4]));
 }

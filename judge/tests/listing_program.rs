@@ -1,4 +1,4 @@
-//! The listing program over the judge: document 01's example, its bytes, its rows.
+//! The listing program over the judge: the example of docs/FORMAT.md, its bytes, its rows.
 
 use judge::craft::{sized, small};
 use std::io::Write;

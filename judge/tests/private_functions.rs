@@ -1,5 +1,5 @@
 //! `logadd` and `calc_lowcomp` of the published alloc.rs, which are private there, against the words
-//! of document 01; its values (j) among them.
+//! of docs/FORMAT.md; its values (j) among them.
 
 use judge::tables;
 

@@ -1,4 +1,4 @@
-//! What document 01 asks to run and compare: chbwcod 60 and 61; rows one too few; a frame one byte
+//! What docs/FORMAT.md asks to run and compare: chbwcod 60 and 61; rows one too few; a frame one byte
 //! short; zero-width mantissas. Each call also passes the checks against the published parser.
 
 use judge::agree::{Judge, Room};

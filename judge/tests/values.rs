@@ -1,4 +1,4 @@
-//! Document 01's values (a) to (j) and its tables, against the published functions.
+//! The values (a) to (j) of docs/FORMAT.md and its tables, against the published functions.
 
 use judge::alloc::{allocate, Channel, DeltaSeg, Params};
 use judge::blocks::{
@@ -69,7 +69,7 @@ fn d_groups_of_a_channel() {
 #[test]
 fn e_bands() {
     assert_eq!([27, 28, 30, 31, 252].map(masktab), [27, 28, 28, 29, 49]);
-    // Request E2's ranges are the same bands.
+    // The same bands, as ranges of equal width.
     let ranged = |bin: usize| match bin {
         0..28 => bin,
         28..49 => 28 + (bin - 28) / 3,

@@ -3,6 +3,7 @@
 //! if some goal that can be reached was not.
 
 use judge::cases::{Amounts, Generator};
+use judge::corners::MOST_ROWS;
 use judge::features::FEATURES;
 use judge::goals::{self, *};
 use judge::names::{self, number, NAMES};
@@ -129,6 +130,9 @@ fn main() {
         .iter()
         .for_each(|goal| println!("   {}", goals::say(goal)));
     failed |= !elsewhere.is_empty();
+    let most = generator.most_rows == MOST_ROWS;
+    let verdict = if most { "ok" } else { "FAILED" };
+    println!("{verdict} no frame has more than {MOST_ROWS} rows, and some have as many");
     println!("ok agreement with the published parser on {calls} inputs");
-    std::process::exit(i32::from(failed || never > 0));
+    std::process::exit(i32::from(failed || never > 0 || !most));
 }

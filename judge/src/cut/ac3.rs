@@ -1,5 +1,5 @@
-//! CUT COPY of `ddpmeta/ac3.rs`. Changed: the cursor comes from the caller, every refusal names document 01's
-//! number at its site, "coordinates sent" is noted, and it ends where `audio_end` is set.
+//! CUT COPY of `ddpmeta/ac3.rs`. Changed: the cursor comes from the caller, every refusal names its number of
+//! docs/FORMAT.md at its site, "coordinates sent" is noted, and it ends where `audio_end` is set.
 //!
 //! AC-3 syncframe parser, ETSI TS 102 366 V1.4.1 clause 4.3 (syncinfo, bsi, audblk, auxdata,
 //! errorcheck) with the Annex D alternate BSI for bsid 6. Every element is recorded.
@@ -131,7 +131,7 @@ pub fn parse<S: Source>(cur: &mut Cursor<'_, S>) -> Result<Summary> {
     let mut block_starts = Vec::with_capacity(6);
     let mut mantissa_starts = Vec::with_capacity(6);
     let mut cpl_blocks = 0;
-    let mut coordinates_sent = true; // added: document 01, "coordinates sent"
+    let mut coordinates_sent = true; // added: "coordinates sent" of the summary
 
     for blk in 0..6usize {
         cur.block = blk as i8;

@@ -1,5 +1,5 @@
-//! CUT COPY of `ddpmeta/blocks.rs`. Changed: the cursor's type, and every refusal names document 01's number at
-//! its site (0: document 01 says that it cannot happen). `aht` and `refuse` are dropped.
+//! CUT COPY of `ddpmeta/blocks.rs`. Changed: the cursor's type, and every refusal names its number of docs/FORMAT.md
+//! at its site (0: docs/FORMAT.md says that it cannot happen). `aht` and `refuse` are dropped.
 //!
 //! Audio block machinery shared by the AC-3 (4.3.3) and E-AC-3 (E.1.2.4) parsers: exponent
 //! unpacking (6.1.3), bit allocation state (6.2.2), and mantissa section lengths (6.3.5 for

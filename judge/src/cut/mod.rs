@@ -1,4 +1,4 @@
-//! What document 01 asks of a parse, answered by the published Rust cut at `audio_end`.
+//! What docs/FORMAT.md asks of a parse, answered by the published Rust cut at `audio_end`.
 //!
 //! Added to the Rust: numbers for names, roles and refusals, and the room rule (refusal 7).
 //! `ac3` and `blocks` here are copies of the published files; to see every change:
@@ -11,8 +11,8 @@ use crate::bits;
 use crate::names::{number, role_numbers, ROW};
 use crate::syntax::Role;
 
-/// A refusal: document 01's number and the Rust's own text, kept to compare with the published
-/// parser. Number 0 marks the sites that document 01 says cannot be reached.
+/// A refusal: its number in docs/FORMAT.md and the Rust's own text, kept to compare with the published
+/// parser. Number 0 marks the sites that cannot be reached, as docs/FORMAT.md says.
 #[derive(Clone, Debug, PartialEq, Eq)]
 pub struct No {
     pub number: u32,
@@ -28,7 +28,7 @@ pub fn no<T>(number: u32, text: impl Into<String>) -> Result<T> {
     })
 }
 
-/// An accepted frame's summary, in document 01's order.
+/// An accepted frame's summary, in the order of docs/FORMAT.md.
 #[derive(Clone, Debug, PartialEq, Eq)]
 pub struct Summary {
     pub rows: usize,
@@ -234,6 +234,6 @@ pub fn answer(capture: &[u8], place: usize, room: &mut [i32]) -> Answer {
     }
 }
 
-/// Rows that no frame can exceed: every row takes a bit of at most 3,840 bytes, but for the skip
-/// fields and mantissas of six blocks, which may have width 0.
+/// More rows than any frame has, known without a proof: every row takes a bit of at most 3,840 bytes, but for
+/// the skip fields and mantissas of six blocks, which may have width 0. (The proved bound is 4,067.)
 pub const MANY_ROWS: usize = 3840 * 8 + 12;

@@ -1,10 +1,12 @@
 //! against SEED SIZE [LEAST]: runs the generator from SEED on and holds the port's answer and every number of its room against the judge's.
 //! With LEAST the frames are swept as well (truncated at every byte, at every place of a longer capture, in every room), seed after seed
-//! until there were that many inputs. Prints what was compared; status 1 on a difference, or where an input to be compared by name was not.
+//! until there were that many inputs. Prints what was compared; status 1 on a difference, or where an input to be compared by name was not,
+//! or no frame of the most rows that a frame can have.
 
 use compare_parse::parse;
 use judge::agree::fresh_room;
 use judge::cases::{Amounts, Case, Generator};
+use judge::corners::MOST_ROWS;
 use judge::cut::MANY_ROWS;
 use judge::goals::by_name;
 use judge::hex;
@@ -49,11 +51,13 @@ fn main() {
         }
     };
     let (mut inputs, mut seeds, mut swept, mut named) = (0, 0, [0; 3], [0; 5]);
+    let mut most_rows = 0;
     loop {
         let mut generator = Generator::new((seed + seeds) as u64, &mut compare);
         generator.run_and_compared();
         generator.run(amounts);
         inputs += generator.calls;
+        most_rows = most_rows.max(generator.most_rows);
         seeds += 1;
         for (sum, of_seed) in swept.iter_mut().zip(generator.swept) {
             *sum += of_seed;
@@ -76,6 +80,8 @@ fn main() {
     for (times, (name, _)) in named.iter().zip(by_name()) {
         println!("{name}: {times}");
     }
+    println!("most rows of a frame: {most_rows}");
     println!("{differences} differences");
-    std::process::exit((differences > 0 || named.contains(&0)) as i32);
+    let complete = !named.contains(&0) && most_rows == MOST_ROWS;
+    std::process::exit((differences > 0 || !complete) as i32);
 }

@@ -10,7 +10,8 @@ fn frames(stream: &[u8]) -> Vec<&[u8]> {
     let mut at = 0;
     while at + 6 <= stream.len() {
         let code = stream[at + 4];
-        let words = ac3_frame_words(usize::from(code >> 6), usize::from(code & 63)).expect("a frame");
+        let words =
+            ac3_frame_words(usize::from(code >> 6), usize::from(code & 63)).expect("a frame");
         frames.push(&stream[at..at + 2 * words]);
         at += 2 * words;
     }
@@ -25,7 +26,11 @@ fn best(name: &str, passes: usize, frames: &[&[u8]], mut one: impl FnMut(&[u8]))
             began.elapsed().as_nanos() as f64 / frames.len() as f64
         })
         .fold(f64::INFINITY, f64::min);
-    println!("{name}: {:.1} us a frame, best of {passes} passes over {} frames", least / 1000.0, frames.len());
+    println!(
+        "{name}: {:.1} us a frame, best of {passes} passes over {} frames",
+        least / 1000.0,
+        frames.len()
+    );
 }
 
 fn main() {

@@ -1,5 +1,5 @@
-//! levels FILE: walks the frames of an .ac3 file and prints dialogue levels and gain words with their bit positions, counted from the start of
-//! their frame. The exit status is 0 if every byte of the file belonged to a frame, 1 if not, 2 if it was called wrongly.
+//! levels FILE: walks the frames of an .ac3 file and prints dialogue levels and gain words with their bit positions, counted from the start
+//! of their frame. The exit status is 0 if every byte of the file belonged to a frame, 1 if not, 2 if it was called wrongly.
 
 use ferrysprig::{parse_at, Field, Role};
 use std::io::{self, Write};

@@ -2,7 +2,7 @@
 
 mod files;
 
-use ferrysprig::{parse_into, Frame, Refusal};
+use ferrysprig::{parse_into, Frame, FrameRef, Refusal};
 use std::fs;
 
 fn bytes(hex: &str) -> Vec<u8> {
@@ -32,16 +32,9 @@ fn words(answer: Result<Frame, Refusal>, room: &[i32]) -> Vec<usize> {
     let sum = checksum(room) as usize;
     match answer {
         Err(refusal) => vec![refusal.number.into(), refusal.rows.len(), refusal.bit, sum],
-        Ok(Frame { fields, summary: s }) => {
-            let mut words = vec![
-                0,
-                fields.len(),
-                s.audio_end,
-                sum,
-                fields.len(),
-                s.bytes,
-                s.audio_end,
-            ];
+        Ok(frame) => {
+            let (rows, s) = (frame.fields.len(), frame.summary);
+            let mut words = vec![0, rows, s.audio_end, sum, rows, s.bytes, s.audio_end];
             words.extend([
                 s.bsid.into(),
                 s.acmod.into(),
@@ -84,7 +77,8 @@ fn every_case_of_the_list() {
         let mut room: Vec<i32> = (0..numbers.parse().unwrap())
             .map(|i| 1_000_000 + i)
             .collect();
-        let given = parse_into(&capture, place.parse().unwrap(), &mut room);
+        let given =
+            parse_into(&capture, place.parse().unwrap(), &mut room).map(FrameRef::into_frame);
         let expected: Vec<usize> = answer.split(' ').map(|n| n.parse().unwrap()).collect();
         assert_eq!(words(given, &room), expected, "{line}");
         cases += 1;

@@ -1,6 +1,6 @@
 //! Fields, by themselves and in a lent room.
 
-use crate::layout::{field, ROW_NUMBERS};
+use crate::layout::{field, role, ROW_NUMBERS};
 use crate::Role;
 use std::iter::FusedIterator;
 use std::slice::ChunksExact;
@@ -59,35 +59,65 @@ pub struct Fields<'a> {
     rows: ChunksExact<'a, i32>,
 }
 
+/// What the tail can add to a list: auxbits, auxdatal, auxdatae, crcrsv, crc2.
+const TAIL_FIELDS: usize = 5;
+
 impl<'a> Fields<'a> {
     pub(crate) fn new(written: &'a [i32]) -> Fields<'a> {
         Fields {
             rows: written.chunks_exact(ROW_NUMBERS),
         }
     }
+
+    /// A list, with room for the tail's.
+    pub(crate) fn list(self) -> Vec<Field> {
+        let mut list = Vec::with_capacity(self.len() + TAIL_FIELDS);
+        for row in self.rows {
+            list.push(of(row));
+        }
+        list
+    }
+
+    /// Those of a role; no field is made for the others.
+    #[inline]
+    pub(crate) fn of_role(self, wanted: Role) -> impl Iterator<Item = Field> + 'a {
+        self.rows
+            .filter(move |row| role(whole(row)) == wanted)
+            .map(of)
+    }
 }
 
+#[inline(always)]
+fn whole(row: &[i32]) -> &[i32; ROW_NUMBERS] {
+    row.try_into().expect("chunks have that length")
+}
+
+#[inline(always)]
 fn of(row: &[i32]) -> Field {
-    field(row.try_into().expect("a row"))
+    field(whole(row))
 }
 
 impl Iterator for Fields<'_> {
     type Item = Field;
 
+    #[inline]
     fn next(&mut self) -> Option<Field> {
         self.rows.next().map(of)
     }
 
+    #[inline]
     fn nth(&mut self, n: usize) -> Option<Field> {
         self.rows.nth(n).map(of)
     }
 
+    #[inline]
     fn size_hint(&self) -> (usize, Option<usize>) {
         self.rows.size_hint()
     }
 }
 
 impl DoubleEndedIterator for Fields<'_> {
+    #[inline]
     fn next_back(&mut self) -> Option<Field> {
         self.rows.next_back().map(of)
     }

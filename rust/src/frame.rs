@@ -68,7 +68,7 @@ impl Frame {
     }
 }
 
-/// An accepted frame whose rows stand in a lent room.
+/// An accepted frame whose rows stand in a lent room. Its functions are those of [`Frame`].
 #[derive(Clone, Debug)]
 #[non_exhaustive]
 pub struct FrameRef<'a> {
@@ -78,17 +78,37 @@ pub struct FrameRef<'a> {
     pub summary: Summary,
 }
 
-impl FrameRef<'_> {
+impl<'a> FrameRef<'a> {
     /// The frame's length in bits, tail included.
     pub fn total_bits(&self) -> usize {
         self.summary.bytes * 8
     }
 
+    /// The first element of a role in a block (-1: outside blocks).
+    pub fn find(&self, role: Role, block: i8) -> Option<Field> {
+        self.all(role).find(|f| f.block == block)
+    }
+
+    /// Every element of a role.
+    pub fn all(&self, role: Role) -> impl Iterator<Item = Field> + 'a {
+        self.fields.clone().of_role(role)
+    }
+
+    /// The value of the first element of a role in a block (-1: outside blocks).
+    pub fn value(&self, role: Role, block: i8) -> Option<u32> {
+        self.find(role, block).map(|f| f.value)
+    }
+
+    /// The first element of a name.
+    pub fn named(&self, name: &str) -> Option<Field> {
+        self.fields.clone().find(|f| f.name == name)
+    }
+
     /// The frame with a list of its own.
-    pub fn into_frame(self) -> Frame {
+    pub fn to_frame(&self) -> Frame {
         Frame {
-            fields: self.fields.collect(),
-            summary: self.summary,
+            fields: self.fields.clone().list(),
+            summary: self.summary.clone(),
         }
     }
 }

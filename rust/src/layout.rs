@@ -1,7 +1,10 @@
 //! How the archive lays out its numbers (docs/FORMAT.md): the lengths and places of rows and answers, in this file alone.
+//!
+//! What turns a row into a field is always inlined, here and in names.rs: a dense frame has thousands, and their loop is most of what this
+//! crate costs.
 
-use crate::names::{known, name, role};
-use crate::{Field, Summary};
+use crate::names::{known, name_of, role_of};
+use crate::{Field, Role, Summary};
 use std::array::from_fn;
 
 /// The numbers of a row: a room of this many numbers holds one.
@@ -26,12 +29,20 @@ pub(crate) const ROWS: usize = 1;
 /// The first bit not yet read.
 pub(crate) const BIT: usize = 2;
 
+/// A row's role.
+#[inline(always)]
+pub(crate) fn role(row: &[i32; ROW_NUMBERS]) -> Role {
+    let [_, role, programme, ..] = *row;
+    role_of(role, programme)
+}
+
 /// A row as a field.
+#[inline(always)]
 pub(crate) fn field(row: &[i32; ROW_NUMBERS]) -> Field {
-    let [number, role_number, programme, block, index, pos, width, value] = *row;
+    let [name, role, programme, block, index, pos, width, value] = *row;
     Field {
-        name: name(number),
-        role: role(role_number, programme),
+        name: name_of(name),
+        role: role_of(role, programme),
         block: known(block),
         index: known(index),
         pos: known(pos),

@@ -117,7 +117,8 @@ impl Role {
 }
 
 /// A role by its number and programme.
-pub(crate) fn role(number: i32, programme: i32) -> Role {
+#[inline(always)]
+pub(crate) fn role_of(number: i32, programme: i32) -> Role {
     match number {
         0 => Role::Plain,
         1 => Role::Sync,
@@ -140,24 +141,27 @@ pub(crate) fn role(number: i32, programme: i32) -> Role {
         18 => Role::AuxDataE,
         19 => Role::BlkStrtInfoE,
         20 => Role::BlkStrtInfo,
-        _ => panic!("libferrysprig.a gave role {number}, which this crate does not know"),
+        _ => unknown(number),
     }
 }
 
 /// A number of the archive's in the type that has room for it. That it fits is proved; that the archive is the proved one is not.
+#[inline(always)]
 pub(crate) fn known<T: TryFrom<i32>>(number: i32) -> T {
-    T::try_from(number)
-        .unwrap_or_else(|_| panic!("libferrysprig.a gave {number}, which is out of range"))
+    T::try_from(number).unwrap_or_else(|_| unknown(number))
 }
 
 /// A name by its number.
-pub(crate) fn name(number: i32) -> &'static str {
-    usize::try_from(number)
-        .ok()
-        .and_then(|n| NAMES.get(n.checked_sub(1)?))
-        .unwrap_or_else(|| {
-            panic!("libferrysprig.a gave name {number}, which this crate does not know")
-        })
+#[inline(always)]
+pub(crate) fn name_of(number: i32) -> &'static str {
+    let place = (number as usize).wrapping_sub(1);
+    NAMES.get(place).unwrap_or_else(|| unknown(number))
+}
+
+#[cold]
+#[inline(never)]
+fn unknown(number: i32) -> ! {
+    panic!("libferrysprig.a gave {number}, which this crate does not know")
 }
 
 #[cfg(test)]
@@ -170,7 +174,7 @@ mod tests {
         let (_, table) = header.split_once("#define FERRYSPRIG_ROLES {").unwrap();
         let (table, _) = table.split_once('}').unwrap();
         let said: Vec<&str> = table.split('"').skip(1).step_by(2).collect();
-        let ours: Vec<String> = (0..21).map(|n| format!("{:?}", role(n, 1))).collect();
+        let ours: Vec<String> = (0..21).map(|n| format!("{:?}", role_of(n, 1))).collect();
         let spelt: Vec<&str> = ours.iter().map(|r| r.trim_end_matches("(1)")).collect();
         assert_eq!(said, spelt);
     }

@@ -1,20 +1,32 @@
-//! Parsing, into room that is made for one frame, kept, or lent.
+//! Parsing, into room that is kept or lent.
 
 use crate::layout::{summary, BIT, MOST_ROWS, REFUSAL, ROW_NUMBERS};
 use crate::names::known;
 use crate::{raw, Fields, Frame, FrameRef, Refusal};
+use std::cell::RefCell;
 use std::fmt;
 
-/// Parses the frame at the start of `data`; bytes after the frame are not looked at.
+/// Parses the frame at the start of `data`; bytes after the frame are not looked at. (A thread that calls this or [`parse_at`] keeps a
+/// [`Parser`] for it.)
 pub fn parse(data: &[u8]) -> Result<Frame, Refusal> {
     parse_at(data, 0)
 }
 
 /// Parses the frame at byte `place` of `capture`; positions are counted from there. A place past the end is refusal 1.
 pub fn parse_at(capture: &[u8], place: usize) -> Result<Frame, Refusal> {
-    Parser::new()
-        .parse_at(capture, place)
-        .map(FrameRef::into_frame)
+    let parse = |parser: &mut Parser| {
+        parser
+            .parse_at(capture, place)
+            .map(|frame| frame.to_frame())
+    };
+    KEPT.try_with(|parser| parse(&mut parser.borrow_mut()))
+        // The thread is ending, and its parser is gone.
+        .unwrap_or_else(|_| parse(&mut Parser::new()))
+}
+
+thread_local! {
+    /// The parser of `parse` and `parse_at`: to make room for one frame can take longer than to parse it.
+    static KEPT: RefCell<Parser> = RefCell::new(Parser::new());
 }
 
 /// Parses as [`parse_at`] does, in room that the caller lends: [`ROW_NUMBERS`] numbers to a row, written in front (docs/FORMAT.md); the

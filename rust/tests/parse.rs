@@ -3,7 +3,7 @@
 mod files;
 
 use ferrysprig::{
-    parse, parse_at, parse_into, Field, FrameRef, Parser, Role, MOST_BYTES, MOST_ROWS, ROW_NUMBERS,
+    parse, parse_at, parse_into, Field, Parser, Role, MOST_BYTES, MOST_ROWS, ROW_NUMBERS,
 };
 
 /// The example of docs/FORMAT.md: fscod 3.
@@ -94,7 +94,7 @@ fn one_row_too_few_of_an_accepted_frame() {
     let refusal = parse_into(stream, 0, &mut room[1..]).unwrap_err();
     assert_eq!((refusal.number, refusal.bit), (7, frame.summary.audio_end));
     assert_eq!(refusal.rows, frame.fields[..all - 1]);
-    let given = parse_into(stream, 0, &mut room).map(FrameRef::into_frame);
+    let given = parse_into(stream, 0, &mut room).map(|frame| frame.to_frame());
     assert_eq!(given.unwrap(), frame);
 }
 
@@ -118,7 +118,7 @@ fn a_parser_gives_what_parse_gives() {
                 .rev()
                 .eq(frame.fields.iter().rev().cloned()));
             assert_eq!(lent.fields.clone().nth(3).as_ref(), frame.fields.get(3));
-            assert_eq!(lent.into_frame(), frame, "{name}, byte {place}");
+            assert_eq!(lent.to_frame(), frame, "{name}, byte {place}");
             most = most.max(frame.fields.len());
             place += frame.summary.bytes;
         }
@@ -241,6 +241,22 @@ fn a_frame_one_byte_short_and_bytes_after_it() {
 fn fields_are_found_by_role_and_name() {
     let stream = files::frame("rate-192-2_0-tones.ac3");
     let frame = parse(&stream).unwrap();
+    let mut parser = Parser::new();
+    let lent = parser.parse(&stream).unwrap();
+    for role in [
+        Role::Dialnorm(0),
+        Role::Dialnorm(1),
+        Role::DynrngExists(0),
+        Role::Plain,
+    ] {
+        assert!(lent.all(role).eq(frame.all(role).cloned()));
+        for block in [-1, 0, 5] {
+            assert_eq!(lent.find(role, block).as_ref(), frame.find(role, block));
+            assert_eq!(lent.value(role, block), frame.value(role, block));
+        }
+    }
+    assert_eq!(lent.named("acmod").as_ref(), frame.named("acmod"));
+    assert_eq!(lent.named("dialnorm2"), None);
     let dialnorm = frame.find(Role::Dialnorm(0), -1).unwrap();
     assert_eq!(frame.named("dialnorm"), Some(dialnorm));
     assert_eq!(frame.value(Role::Dialnorm(0), -1), Some(dialnorm.value));

@@ -2,7 +2,7 @@
 
 mod files;
 
-use ferrysprig::{parse_into, Frame, FrameRef, Refusal};
+use ferrysprig::{parse_into, Frame, Refusal};
 use std::fs;
 
 fn bytes(hex: &str) -> Vec<u8> {
@@ -78,7 +78,7 @@ fn every_case_of_the_list() {
             .map(|i| 1_000_000 + i)
             .collect();
         let given =
-            parse_into(&capture, place.parse().unwrap(), &mut room).map(FrameRef::into_frame);
+            parse_into(&capture, place.parse().unwrap(), &mut room).map(|frame| frame.to_frame());
         let expected: Vec<usize> = answer.split(' ').map(|n| n.parse().unwrap()).collect();
         assert_eq!(words(given, &room), expected, "{line}");
         cases += 1;

@@ -12,7 +12,7 @@ enum {
     UNTOUCHED = 1000000 /* neither rows nor answers hold it */
 };
 
-static const uint8_t example[] = {0x0B, 0x77, 0x00, 0x00, 0xC0, 0x00}; /* docs/FORMAT.md: fscod 3 */
+static const uint8_t example[] = {0x0B, 0x77, 0x00, 0x00, 0xC0, 0x00}; /* fscod 3: refused after four rows */
 
 static int32_t rows[ROOM];
 static int32_t answer[FERRYSPRIG_ANSWER_NUMBERS];

@@ -5,8 +5,11 @@ mod files;
 use ferrysprig::{
     parse, parse_at, parse_into, Field, Parser, Role, MOST_BYTES, MOST_ROWS, ROW_NUMBERS,
 };
+use std::cell::RefCell;
+use std::sync::mpsc::{channel, Sender};
+use std::thread;
 
-/// The example of docs/FORMAT.md: fscod 3.
+/// fscod 3: refused after four fields.
 const EXAMPLE: [u8; 6] = [0x0B, 0x77, 0, 0, 0xC0, 0];
 
 fn first_fields() -> Vec<Field> {
@@ -273,6 +276,28 @@ fn fields_are_found_by_role_and_name() {
     );
     assert_eq!(mantissas[5].end(), frame.summary.audio_end);
     assert_eq!(frame.total_bits(), 8 * 768);
+}
+
+/// What a thread keeps for `parse` is gone when its last destructors run: whichever runs first, one of these two parses before that and one
+/// after.
+#[test]
+fn parse_answers_while_its_thread_ends() {
+    struct Parses(Sender<u8>);
+    impl Drop for Parses {
+        fn drop(&mut self) {
+            let refusal = parse(&EXAMPLE).unwrap_err();
+            self.0.send(refusal.number).unwrap();
+        }
+    }
+    thread_local!(static FIRST: RefCell<Option<Parses>> = const { RefCell::new(None) });
+    thread_local!(static LAST: RefCell<Option<Parses>> = const { RefCell::new(None) });
+    let (sender, receiver) = channel();
+    thread::spawn(move || {
+        FIRST.with(|kept| kept.replace(Some(Parses(sender.clone()))));
+        parse(&EXAMPLE).unwrap_err();
+        LAST.with(|kept| kept.replace(Some(Parses(sender))));
+    });
+    assert_eq!(receiver.iter().collect::<Vec<_>>(), [3, 3]);
 }
 
 /// Every frame with bytes exchanged, from a fixed seed: an answer, and fields that lie end to end.

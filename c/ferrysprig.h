@@ -5,8 +5,9 @@
    The functions have no state: no heap, no globals, no files, no signals. Any number of threads may call them at once, each with its own
    `rows` and `answer`. The archive needs memcpy, memmove and memset, and nothing else.
 
-   An edit of a frame breaks its two checksums, crc1 and crc2: a decoder then may drop the frame. The functions neither check nor mend them;
-   whoever changes a field computes them anew. */
+   An edit breaks the checksums: but for the sync word, crc1 guards the first five eighths of a frame and crc2 all of it. Whoever changes a
+   field makes crc2 wrong, and crc1 too where the field stands that early, and a decoder may then drop the frame. The functions neither
+   check nor mend them. */
 #ifndef FERRYSPRIG_H
 #define FERRYSPRIG_H
 

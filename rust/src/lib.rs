@@ -16,8 +16,9 @@
 //!
 //! # An edit breaks the checksums
 //!
-//! A frame carries two, crc1 and crc2, over nearly all of its bits. Whoever changes a field makes both wrong, and a decoder then may drop
-//! the frame. This crate neither checks nor mends them: compute them anew after an edit, as the original's `fix_crcs` does.
+//! But for the sync word, crc1 guards the first five eighths of a frame and crc2 all of it. Whoever changes a field makes crc2 wrong, and
+//! crc1 too where the field stands that early, and a decoder may then drop the frame. This crate neither checks nor mends them: compute
+//! them anew after an edit, as the original's `fix_crcs` does.
 //!
 //! # Many frames
 //!

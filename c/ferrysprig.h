@@ -62,7 +62,7 @@ enum {
     FERRYSPRIG_ANSWER_CPL_BLOCKS = 10,      /* how many blocks use coupling */
     FERRYSPRIG_ANSWER_BLOCK_STARTS = 11,    /* 11 to 16: the bits at which the six blocks start */
     FERRYSPRIG_ANSWER_MANTISSA_STARTS = 17, /* 17 to 22: the bits at which their mantissas start */
-    FERRYSPRIG_ANSWER_COORDINATES_SENT = 23 /* whether all coupled channels sent theirs in the first block with coupling; yes where none is */
+    FERRYSPRIG_ANSWER_COORDINATES_SENT = 23 /* whether all coupled channels sent theirs in the first block with coupling; yes if none is */
 };
 #define FERRYSPRIG_ANSWER_NUMBERS 24
 

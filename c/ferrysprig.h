@@ -1,8 +1,13 @@
-/* Ferrysprig, the proved parser of AC-3 frames, for C and C++. Link target/staticlib/libferrysprig.a, which `rt staticlib ferrysprig` writes (for
-   x86-64 Linux). docs/FORMAT.md says more of what the numbers mean, docs/NAMES.md lists the names, docs/PROMISES.md says what is proved.
+/* Ferrysprig, the proved parser of AC-3 frames, for C and C++. Link target/staticlib/libferrysprig.a, which `rt staticlib ferrysprig`
+   writes (for x86-64 Linux). docs/FORMAT.md says more of what the numbers mean, docs/NAMES.md of the names, docs/PROMISES.md what is
+   proved.
 
-   The functions have no state: no heap, no globals, no files, no signals. Any number of threads may call them at once, each with its own `rows`
-   and `answer`. A call needs some kilobytes of stack. */
+   The functions have no state: no heap, no globals, no files, no signals. Any number of threads may call them at once, each with its own
+   `rows` and `answer`. The archive needs memcpy, memmove and memset, and nothing else.
+
+   An edit breaks the checksums: but for the sync word, crc1 guards the first five eighths of a frame and crc2 all of it. Whoever changes a
+   field makes crc2 wrong, and crc1 too where the field stands that early, and a decoder may then drop the frame. The functions neither
+   check nor mend them. */
 #ifndef FERRYSPRIG_H
 #define FERRYSPRIG_H
 
@@ -14,57 +19,98 @@
 extern "C" {
 #endif
 
-/* The numbers of an answer. From FERRYSPRIG_SUMMARY on they are the summary of an accepted frame, and 0 on a refusal; yes is 1. */
-enum {
-    FERRYSPRIG_REFUSAL = 0,          /* 0: accepted; else 1 to 20, see FERRYSPRIG_MEANINGS */
-    FERRYSPRIG_ROWS = 1,             /* how many rows were written, on a refusal too */
-    FERRYSPRIG_BIT = 2,              /* the first bit not yet read; audio_end if accepted */
-    FERRYSPRIG_SUMMARY = 3,          /* how many rows an accepted frame has: number 1 again */
-    FERRYSPRIG_BYTES = 4,            /* the frame's length: the next frame starts so many bytes on */
-    FERRYSPRIG_AUDIO_END = 5,        /* the first bit after the last block's mantissas: the frame's tail (auxiliary data, crc2) starts here */
-    FERRYSPRIG_BSID = 6,
-    FERRYSPRIG_ACMOD = 7,
-    FERRYSPRIG_LFEON = 8,
-    FERRYSPRIG_FSCOD = 9,
-    FERRYSPRIG_CPL_BLOCKS = 10,      /* how many blocks use coupling */
-    FERRYSPRIG_BLOCK_STARTS = 11,    /* 11 to 16: the bits at which the six blocks start */
-    FERRYSPRIG_MANTISSA_STARTS = 17, /* 17 to 22: the bits at which their mantissas start */
-    FERRYSPRIG_COORDINATES_SENT = 23 /* whether every coupled channel sent coordinates in the first block that uses coupling; yes where none does */
-};
-#define FERRYSPRIG_ANSWER 24
+/* Which header this is. */
+#define FERRYSPRIG_VERSION "0.1.0"
+#define FERRYSPRIG_VERSION_NUMBER 100 /* 10,000 times the first part, 100 times the second, and the third */
 
-/* The numbers of a row. Row i stands at numbers 8 i to 8 i + 7 of the lent room. */
+/* Bytes of stack that are enough for a call. (c/test.c measures it: a call takes some 11,600, and where the program finds memcpy and the
+   others at their first use, the loader takes some 2,400 more.) */
+#define FERRYSPRIG_STACK_BYTES 16384
+
+/* Bytes that no frame exceeds. */
+#define FERRYSPRIG_MOST_BYTES 3840
+
+/* Rows that no frame exceeds, which is proved, and some frames have so many. With room for them, refusal 7 is not given. Most frames have
+   some hundreds. */
+#define FERRYSPRIG_MOST_ROWS 4067
+
+/* The numbers of a row. Row i begins at number FERRYSPRIG_ROW_NUMBERS * i of the lent room. */
 enum {
-    FERRYSPRIG_NAME = 0,      /* 1 to 111, docs/NAMES.md */
-    FERRYSPRIG_ROLE = 1,      /* FERRYSPRIG_PLAIN and so on, below */
-    FERRYSPRIG_PROGRAMME = 2, /* 0 or 1 for the five roles that speak of a programme, else -1 */
-    FERRYSPRIG_BLOCK = 3,     /* 0 to 5, or -1 outside the blocks */
-    FERRYSPRIG_INDEX = 4,     /* channel, band or slot, or -1 */
-    FERRYSPRIG_POSITION = 5,  /* the first bit, counted from the frame's first, most significant bit of a byte first */
-    FERRYSPRIG_WIDTH = 6,     /* in bits; at most 16, except for a span, which may have any, 0 included */
-    FERRYSPRIG_VALUE = 7      /* the bits as a number; 0 for a span */
+    FERRYSPRIG_ROW_NAME = 0,      /* 1 to 111, see FERRYSPRIG_NAMES */
+    FERRYSPRIG_ROW_ROLE = 1,      /* FERRYSPRIG_ROLE_PLAIN and so on, below */
+    FERRYSPRIG_ROW_PROGRAMME = 2, /* 0 or 1 for the five roles that speak of a programme, else -1 */
+    FERRYSPRIG_ROW_BLOCK = 3,     /* 0 to 5, or -1 outside the blocks */
+    FERRYSPRIG_ROW_INDEX = 4,     /* channel, band or slot, or -1 */
+    FERRYSPRIG_ROW_POSITION = 5,  /* the first bit, counted from the frame's first, most significant bit of a byte first */
+    FERRYSPRIG_ROW_WIDTH = 6,     /* in bits; at most 16, except for a span, which may have any, 0 included */
+    FERRYSPRIG_ROW_VALUE = 7      /* the bits as a number; 0 for a span */
 };
-#define FERRYSPRIG_ROW 8
+#define FERRYSPRIG_ROW_NUMBERS 8
+
+/* The numbers of an answer. From FERRYSPRIG_ANSWER_SUMMARY on they are the summary of an accepted frame, and 0 on a refusal; yes is 1. */
+enum {
+    FERRYSPRIG_ANSWER_REFUSAL = 0,          /* 0: accepted; else 1 to 20, see FERRYSPRIG_MEANINGS */
+    FERRYSPRIG_ANSWER_ROWS = 1,             /* how many rows were written, on a refusal too */
+    FERRYSPRIG_ANSWER_BIT = 2,              /* the first bit not yet read; audio_end if accepted */
+    FERRYSPRIG_ANSWER_SUMMARY = 3,          /* how many rows an accepted frame has: number 1 again */
+    FERRYSPRIG_ANSWER_BYTES = 4,            /* the frame's length: the next frame starts so many bytes on */
+    FERRYSPRIG_ANSWER_AUDIO_END = 5,        /* the first bit after the last block's mantissas: the frame's tail (auxiliary data, crc2) */
+    FERRYSPRIG_ANSWER_BSID = 6,
+    FERRYSPRIG_ANSWER_ACMOD = 7,
+    FERRYSPRIG_ANSWER_LFEON = 8,
+    FERRYSPRIG_ANSWER_FSCOD = 9,
+    FERRYSPRIG_ANSWER_CPL_BLOCKS = 10,      /* how many blocks use coupling */
+    FERRYSPRIG_ANSWER_BLOCK_STARTS = 11,    /* 11 to 16: the bits at which the six blocks start */
+    FERRYSPRIG_ANSWER_MANTISSA_STARTS = 17, /* 17 to 22: the bits at which their mantissas start */
+    FERRYSPRIG_ANSWER_COORDINATES_SENT = 23 /* whether all coupled channels sent theirs in the first block with coupling; yes if none is */
+};
+#define FERRYSPRIG_ANSWER_NUMBERS 24
 
 /* The roles that rows have. (Numbers 3, 4 and 16 to 20 of the original's belong to the frame's tail and to E-AC-3.) */
 enum {
-    FERRYSPRIG_PLAIN = 0,
-    FERRYSPRIG_SYNC = 1,
-    FERRYSPRIG_CRC1 = 2,
-    FERRYSPRIG_FRAME_SIZE = 5,    /* fscod, frmsizecod */
-    FERRYSPRIG_DIALNORM = 6,      /* of a programme, as the next four */
-    FERRYSPRIG_COMPR_EXISTS = 7,
-    FERRYSPRIG_COMPR = 8,
-    FERRYSPRIG_DYNRNG_EXISTS = 9,
-    FERRYSPRIG_DYNRNG = 10,
-    FERRYSPRIG_SKIPLE = 11,
-    FERRYSPRIG_SKIPL = 12,
-    FERRYSPRIG_SKIPFLD = 13,      /* a span */
-    FERRYSPRIG_ADDBSI = 14,       /* a span */
-    FERRYSPRIG_MANTISSAS = 15     /* a span */
+    FERRYSPRIG_ROLE_PLAIN = 0,
+    FERRYSPRIG_ROLE_SYNC = 1,
+    FERRYSPRIG_ROLE_CRC1 = 2,
+    FERRYSPRIG_ROLE_FRAME_SIZE = 5,    /* fscod, frmsizecod */
+    FERRYSPRIG_ROLE_DIALNORM = 6,      /* of a programme, as the next four */
+    FERRYSPRIG_ROLE_COMPR_EXISTS = 7,
+    FERRYSPRIG_ROLE_COMPR = 8,
+    FERRYSPRIG_ROLE_DYNRNG_EXISTS = 9,
+    FERRYSPRIG_ROLE_DYNRNG = 10,
+    FERRYSPRIG_ROLE_SKIPLE = 11,
+    FERRYSPRIG_ROLE_SKIPL = 12,
+    FERRYSPRIG_ROLE_SKIPFLD = 13,      /* a span */
+    FERRYSPRIG_ROLE_ADDBSI = 14,       /* a span */
+    FERRYSPRIG_ROLE_MANTISSAS = 15     /* a span */
 };
 
-/* What each refusal means, by its number: static const char *const meanings[] = FERRYSPRIG_MEANINGS; */
+/* The texts of three kinds of numbers, each by its number: static const char *const names[] = FERRYSPRIG_NAMES; */
+
+/* The roles, as the original spells them. */
+#define FERRYSPRIG_ROLES { \
+    /*  0 */ "Plain", "Sync", "Crc1", "Crc2", "CrcRsv", "FrameSize", "Dialnorm", "ComprExists", "Compr", "DynrngExists", \
+    /* 10 */ "Dynrng", "Skiple", "Skipl", "Skipfld", "Addbsi", "Mantissas", "AuxBits", "AuxDataL", "AuxDataE", "BlkStrtInfoE", \
+    /* 20 */ "BlkStrtInfo" \
+}
+
+/* The names, as the original spells them. (There is no name 0.) */
+#define FERRYSPRIG_NAMES { \
+    /*   0 */ "", \
+    /*   1 */ "syncword", "crc1", "fscod", "frmsizecod", "bsid", "bsmod", "acmod", "cmixlev", "surmixlev", "dsurmod", \
+    /*  11 */ "lfeon", "dialnorm", "compre", "compr", "langcode", "langcod", "audprodie", "mixlevel", "roomtyp", "dialnorm2", \
+    /*  21 */ "compr2e", "compr2", "langcod2e", "langcod2", "audprodi2e", "mixlevel2", "roomtyp2", "copyrightb", "origbs", "xbsi1e", \
+    /*  31 */ "dmixmod", "ltrtcmixlev", "ltrtsurmixlev", "lorocmixlev", "lorosurmixlev", "xbsi2e", "dsurexmod", "dheadphonmod", "adconvtyp", "xbsi2", \
+    /*  41 */ "encinfo", "timecod1e", "timecod1", "timecod2e", "timecod2", "addbsie", "addbsil", "addbsi", "blksw", "dithflag", \
+    /*  51 */ "dynrnge", "dynrng", "dynrng2e", "dynrng2", "cplstre", "cplinu", "chincpl", "phsflginu", "cplbegf", "cplendf", \
+    /*  61 */ "cplbndstrc", "cplcoe", "mstrcplco", "cplcoexp", "cplcomant", "phsflg", "rematstr", "rematflg", "cplexpstr", "chexpstr", \
+    /*  71 */ "lfeexpstr", "chbwcod", "cplabsexp", "cplexps", "exps[ch][0]", "exps[ch]", "gainrng", "lfeexps[0]", "lfeexps", "baie", \
+    /*  81 */ "sdcycod", "fdcycod", "sgaincod", "dbpbcod", "floorcod", "snroffste", "csnroffst", "cplfsnroffst", "cplfgaincod", "fsnroffst", \
+    /*  91 */ "fgaincod", "lfefsnroffst", "lfefgaincod", "cplleake", "cplfleak", "cplsleak", "deltbaie", "cpldeltbae", "deltbae", "cpldeltnseg", \
+    /* 101 */ "cpldeltoffst", "cpldeltlen", "cpldeltba", "deltnseg", "deltoffst", "deltlen", "deltba", "skiple", "skipl", "skipfld", \
+    /* 111 */ "mantissas" \
+}
+
+/* What each refusal means. */
 #define FERRYSPRIG_MEANINGS { \
     /*  0 */ "accepted", \
     /*  1 */ "the input has fewer than 6 bytes", \
@@ -84,29 +130,27 @@ enum {
     /* 15 */ "LFE exponents are reused, but were never sent", \
     /* 16 */ "a grouped exponent is above 124", \
     /* 17 */ "an exponent is outside 0 to 24 after a step", \
-    /* 18 */ "deltbae is 0 in block 0", \
-    /* 19 */ "deltbae is 3", \
+    /* 18 */ "cpldeltbae or deltbae is 0 in block 0", \
+    /* 19 */ "cpldeltbae or deltbae is 3", \
     /* 20 */ "the coupling leak is needed, but was never sent" \
 }
 
-/* Bytes that no frame exceeds. */
-#define FERRYSPRIG_MOST_BYTES 3840
-
-/* Rows that no frame exceeds: every row takes one of its bits or more, except a skip field and mantissas in each of the six blocks. With room for
-   so many, refusal 7 is not given. Most frames have some hundreds. */
-#define FERRYSPRIG_MOST_ROWS (8 * FERRYSPRIG_MOST_BYTES + 12)
-
 /* Parses the frame at byte `place` of `capture` into the lent `rows`, and writes the answer's numbers.
 
-   Any bytes, any place (past the end: refusal 1) and any room are answered. `rows_len` counts numbers, not rows: the room is rows_len / 8 rows.
-   Numbers past the rows written are not touched, on refusals too. The pointers are to as many elements as their lengths say (a pointer with
-   length 0 is not looked at); `rows` and `answer` overlap nothing. Bytes after the frame are not looked at. The rows of an accepted frame lie end
-   to end from bit 0 to audio_end. */
-void ferrysprig_parse(const uint8_t *capture, size_t capture_len, size_t place, int32_t *rows, size_t rows_len, int32_t answer[FERRYSPRIG_ANSWER]);
+   Any bytes, any place (past the end: refusal 1) and any room are answered. `rows_len` counts numbers, not rows: the room is rows_len /
+   FERRYSPRIG_ROW_NUMBERS rows. Numbers past the rows written are not touched, on refusals too. The pointers are to as many elements as
+   their lengths say (a pointer with length 0 is not looked at); `rows` and `answer` overlap nothing. Bytes after the frame are not looked
+   at.
 
-/* Whether the n bits of x from bit a on are those of y from bit b on, most significant bit of a byte first. Where either range ends past its bytes, or
-   at a bit that 64 bits cannot count, they are not: the answer is false. A range of no bits ends where it starts, so it equals another if both start at
-   most at the ends. x and y may overlap or be the same. */
+   The rows lie end to end from bit 0; those of an accepted frame end at audio_end. On a refusal the last row has the bad value at 2, 5, 8,
+   11 and 16 to 19. At 3 it is one of the last two, fscod and frmsizecod; at 9 both of them together, cplbegf and cplendf. At 10, 12 to 15
+   and 20 the last row is not to blame, but what was sent, or never sent, before; at 1, 4, 6 and 7 input, frame or room end too early. */
+void ferrysprig_parse(const uint8_t *capture, size_t capture_len, size_t place, int32_t *rows, size_t rows_len,
+                      int32_t answer[FERRYSPRIG_ANSWER_NUMBERS]);
+
+/* Whether the n bits of x from bit a on are those of y from bit b on, most significant bit of a byte first. Where either range ends past
+   its bytes, or at a bit that 64 bits cannot count, they are not: the answer is false. A range of no bits ends where it starts, so it
+   equals another if both start at most at the ends. x and y may overlap or be the same. */
 bool ferrysprig_range_eq(const uint8_t *x, size_t x_len, size_t a, const uint8_t *y, size_t y_len, size_t b, size_t n);
 
 #ifdef __cplusplus

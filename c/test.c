@@ -1,12 +1,21 @@
-/* Tries what ferrysprig.h says of a call: a line `ok WHAT` or `FAILED WHAT` for each, and exit status 0 only if all hold. */
+/* test FILES: tries what ferrysprig.h says of a call, and of the stack on the frames of those files: a line `ok WHAT` or `FAILED WHAT` for
+   each, and exit status 0 only if all hold. */
+#define _XOPEN_SOURCE 700 /* for ucontext.h */
 #include "ferrysprig.h"
-#include <stdbool.h>
 #include <stdio.h>
+#include <string.h>
+#include <ucontext.h>
 
-static const uint8_t example[] = {0x0B, 0x77, 0x00, 0x00, 0xC0, 0x00}; /* document 01's: fscod 3 */
+enum {
+    WIDTH = FERRYSPRIG_ROW_NUMBERS,
+    ROOM = 5 * WIDTH, /* one row more than the example has */
+    UNTOUCHED = 1000000 /* neither rows nor answers hold it */
+};
 
-static int32_t rows[40];
-static int32_t answer[FERRYSPRIG_ANSWER];
+static const uint8_t example[] = {0x0B, 0x77, 0x00, 0x00, 0xC0, 0x00}; /* fscod 3: refused after four rows */
+
+static int32_t rows[ROOM];
+static int32_t answer[FERRYSPRIG_ANSWER_NUMBERS];
 static bool all_hold = true;
 
 static void holds(const char *what, bool it_holds) {
@@ -14,26 +23,26 @@ static void holds(const char *what, bool it_holds) {
     all_hold = all_hold && it_holds;
 }
 
-/* A number that neither rows nor answers hold, in every place. */
 static void mark(void) {
-    for (int i = 0; i < 40; i++)
-        rows[i] = 1000000;
-    for (int i = 0; i < FERRYSPRIG_ANSWER; i++)
-        answer[i] = 1000000;
+    for (int i = 0; i < ROOM; i++)
+        rows[i] = UNTOUCHED;
+    for (int i = 0; i < FERRYSPRIG_ANSWER_NUMBERS; i++)
+        answer[i] = UNTOUCHED;
 }
 
 static bool untouched_from(int first) {
-    for (int i = first; i < 40; i++)
-        if (rows[i] != 1000000)
+    for (int i = first; i < ROOM; i++)
+        if (rows[i] != UNTOUCHED)
             return false;
     return true;
 }
 
 static bool refused(int32_t number, int32_t count, int32_t bit) {
-    for (int i = FERRYSPRIG_SUMMARY; i < FERRYSPRIG_ANSWER; i++)
+    for (int i = FERRYSPRIG_ANSWER_SUMMARY; i < FERRYSPRIG_ANSWER_NUMBERS; i++)
         if (answer[i] != 0)
             return false;
-    return answer[FERRYSPRIG_REFUSAL] == number && answer[FERRYSPRIG_ROWS] == count && answer[FERRYSPRIG_BIT] == bit && untouched_from(8 * count);
+    return answer[FERRYSPRIG_ANSWER_REFUSAL] == number && answer[FERRYSPRIG_ANSWER_ROWS] == count && answer[FERRYSPRIG_ANSWER_BIT] == bit
+        && untouched_from(WIDTH * count);
 }
 
 static void parse(size_t length, size_t place, size_t room) {
@@ -41,28 +50,31 @@ static void parse(size_t length, size_t place, size_t room) {
     ferrysprig_parse(example, length, place, rows, room, answer);
 }
 
-int main(void) {
+static void try_calls(void) {
     mark();
     ferrysprig_parse(NULL, 0, 0, NULL, 0, answer);
     holds("nothing at all", refused(1, 0, 0));
-    parse(5, 0, 40);
+    parse(5, 0, ROOM);
     holds("five bytes", refused(1, 0, 0));
-    parse(6, 6, 40);
+    parse(6, 6, ROOM);
     holds("a place at the end", refused(1, 0, 0));
-    parse(6, SIZE_MAX, 40);
+    parse(6, SIZE_MAX, ROOM);
     holds("a place far past the end", refused(1, 0, 0));
-    parse(6, 0, 40);
-    holds("document 01's example", refused(3, 4, 40));
-    holds("its third row", rows[16] == 3 && rows[16 + FERRYSPRIG_ROLE] == FERRYSPRIG_FRAME_SIZE && rows[16 + FERRYSPRIG_PROGRAMME] == -1
-              && rows[16 + FERRYSPRIG_BLOCK] == -1 && rows[16 + FERRYSPRIG_INDEX] == -1 && rows[16 + FERRYSPRIG_POSITION] == 32
-              && rows[16 + FERRYSPRIG_WIDTH] == 2 && rows[16 + FERRYSPRIG_VALUE] == 3);
-    parse(6, 0, 31);
+    parse(6, 0, ROOM);
+    holds("the example", refused(3, 4, 40));
+    const int32_t *third = &rows[2 * WIDTH];
+    holds("its third row", third[FERRYSPRIG_ROW_NAME] == 3 && third[FERRYSPRIG_ROW_ROLE] == FERRYSPRIG_ROLE_FRAME_SIZE
+              && third[FERRYSPRIG_ROW_PROGRAMME] == -1 && third[FERRYSPRIG_ROW_BLOCK] == -1 && third[FERRYSPRIG_ROW_INDEX] == -1
+              && third[FERRYSPRIG_ROW_POSITION] == 32 && third[FERRYSPRIG_ROW_WIDTH] == 2 && third[FERRYSPRIG_ROW_VALUE] == 3);
+    parse(6, 0, 4 * WIDTH - 1);
     holds("one number too few for its fourth row", refused(7, 3, 34));
-    parse(6, 0, 7);
+    parse(6, 0, WIDTH - 1);
     holds("one number too few for its first row", refused(7, 0, 0));
     parse(6, 0, 0);
     holds("no room", refused(7, 0, 0));
+}
 
+static void try_range_eq(void) {
     const uint8_t moved[] = {0xF0, 0xB7, 0x70, 0x0F}; /* the sync word, four bits on */
     holds("equal bits at other places", ferrysprig_range_eq(example, 6, 0, moved, 4, 4, 23));
     holds("a bit that differs", !ferrysprig_range_eq(example, 6, 0, moved, 4, 4, 25));
@@ -72,5 +84,69 @@ int main(void) {
     holds("no bits, at the end", ferrysprig_range_eq(moved, 4, 32, NULL, 0, 0, 0));
     holds("no bits, past the end", !ferrysprig_range_eq(moved, 4, 33, moved, 4, 0, 0));
     holds("more bits than can be counted", !ferrysprig_range_eq(moved, 4, 8, moved, 4, 8, SIZE_MAX));
+}
+
+static void try_texts(void) {
+    static const char *const names[] = FERRYSPRIG_NAMES;
+    static const char *const roles[] = FERRYSPRIG_ROLES;
+    static const char *const meanings[] = FERRYSPRIG_MEANINGS;
+    size_t last = sizeof names / sizeof *names - 1;
+    holds("the first and the last name", strcmp(names[1], "syncword") == 0 && strcmp(names[last], "mantissas") == 0);
+    holds("roles by their numbers", strcmp(roles[FERRYSPRIG_ROLE_FRAME_SIZE], "FrameSize") == 0
+              && strcmp(roles[FERRYSPRIG_ROLE_MANTISSAS], "Mantissas") == 0);
+    holds("meanings by their numbers", strcmp(meanings[0], "accepted") == 0 && strcmp(meanings[5], "bsid is above 8") == 0);
+}
+
+/* A stack for calls alone: what they used of it is no longer as it was. */
+static uint8_t stack[4 * FERRYSPRIG_STACK_BYTES];
+static uint8_t stream[65536];
+static size_t stream_len;
+static ucontext_t here, there;
+
+static void parse_stream(void) {
+    static int32_t room[FERRYSPRIG_MOST_ROWS * WIDTH];
+    size_t place = 0;
+    do {
+        ferrysprig_parse(stream, stream_len, place, room, sizeof room / sizeof *room, answer);
+        place += (size_t)answer[FERRYSPRIG_ANSWER_BYTES];
+    } while (answer[FERRYSPRIG_ANSWER_REFUSAL] == 0);
+}
+
+static size_t stack_used(void) {
+    memset(stack, 0xA5, sizeof stack);
+    getcontext(&there);
+    there.uc_stack.ss_sp = stack;
+    there.uc_stack.ss_size = sizeof stack;
+    there.uc_link = &here;
+    makecontext(&there, parse_stream, 0);
+    swapcontext(&here, &there);
+    size_t unused = 0;
+    while (unused < sizeof stack && stack[unused] == 0xA5)
+        unused++;
+    return sizeof stack - unused;
+}
+
+static void try_stack(int files, char **names) {
+    size_t most = 0;
+    bool all_read = files > 0;
+    for (int i = 0; i < files; i++) {
+        FILE *in = fopen(names[i], "rb");
+        stream_len = in ? fread(stream, 1, sizeof stream, in) : 0;
+        all_read = all_read && stream_len > 0;
+        if (in)
+            fclose(in);
+        size_t used = stack_used();
+        most = used > most ? used : most;
+    }
+    holds("frames were read", all_read);
+    printf("%zu bytes of stack were used\n", most);
+    holds("the stack is enough, and less than twice what is needed", most <= FERRYSPRIG_STACK_BYTES && 2 * most > FERRYSPRIG_STACK_BYTES);
+}
+
+int main(int argc, char **argv) {
+    try_calls();
+    try_range_eq();
+    try_texts();
+    try_stack(argc - 1, argv + 1);
     return all_hold ? 0 : 1;
 }

@@ -1,4 +1,5 @@
-//! Links the archive that `rt staticlib ferrysprig` writes at the top of the repository; FERRYSPRIG_LIB names its folder where it stands elsewhere.
+//! Links the archive that `rt staticlib ferrysprig` writes at the top of the repository; FERRYSPRIG_LIB names its folder where it stands
+//! elsewhere.
 
 use std::env;
 use std::path::PathBuf;

@@ -1,7 +1,5 @@
 //! Names, roles and refusals by their numbers (docs/NAMES.md, docs/FORMAT.md).
 
-use crate::Field;
-
 /// The names of the fields, as the original spells them; number n stands at place n - 1.
 #[rustfmt::skip] // ten to a line
 pub const NAMES: [&str; 111] = [
@@ -20,7 +18,7 @@ pub const NAMES: [&str; 111] = [
 ];
 
 /// What each refusal means; number n stands at place n - 1.
-pub const REFUSALS: [&str; 20] = [
+pub const REFUSALS: &[&str] = &[
     "the input has fewer than 6 bytes",
     "the sync word is not 0x0B77",
     "fscod is 3, or frmsizecod is 38 or more",
@@ -38,8 +36,8 @@ pub const REFUSALS: [&str; 20] = [
     "LFE exponents are reused, but were never sent",
     "a grouped exponent is above 124",
     "an exponent is outside 0 to 24 after a step",
-    "deltbae is 0 in block 0",
-    "deltbae is 3",
+    "cpldeltbae or deltbae is 0 in block 0",
+    "cpldeltbae or deltbae is 3",
     "the coupling leak is needed, but was never sent",
 ];
 
@@ -47,13 +45,19 @@ pub const REFUSALS: [&str; 20] = [
 /// first or only one, 1 for the second.
 ///
 /// The parser gives no `Crc2`, `CrcRsv`, `AuxBits`, `AuxDataL` or `AuxDataE` (they stand after `audio_end`), and no `BlkStrtInfoE` or
-/// `BlkStrtInfo` (they are E-AC-3's). They are here as in the original, so that a caller's tail can be appended to the fields.
+/// `BlkStrtInfo` (they are E-AC-3's). They are here as in the original, so that a caller's tail can be appended to the fields. The list is
+/// the original's whole list, so it is not marked `non_exhaustive`.
 #[derive(Clone, Copy, Debug, PartialEq, Eq, Hash)]
 pub enum Role {
+    /// Any other element.
     Plain,
+    /// syncword.
     Sync,
+    /// crc1.
     Crc1,
+    /// crc2, the last word of the tail.
     Crc2,
+    /// crcrsv, the bit before crc2.
     CrcRsv,
     /// fscod and frmsizecod.
     FrameSize,
@@ -67,7 +71,9 @@ pub enum Role {
     DynrngExists(u8),
     /// dynrng or dynrng2.
     Dynrng(u8),
+    /// skiple.
     Skiple,
+    /// skipl.
     Skipl,
     /// A block's skip bytes, one span.
     Skipfld,
@@ -75,10 +81,15 @@ pub enum Role {
     Addbsi,
     /// Every mantissa of a block, one span.
     Mantissas,
+    /// auxbits, one span from the end of the audio on.
     AuxBits,
+    /// auxdatal.
     AuxDataL,
+    /// auxdatae.
     AuxDataE,
+    /// blkstrtinfoe.
     BlkStrtInfoE,
+    /// blkstrtinfo.
     BlkStrtInfo,
 }
 
@@ -91,7 +102,7 @@ impl Role {
         )
     }
 
-    /// Elements whose value is a whole-frame checksum.
+    /// Elements whose value is a whole-frame checksum: after any edit of the frame they are wrong until they are computed anew.
     pub fn is_checksum(self) -> bool {
         matches!(self, Role::Crc1 | Role::Crc2)
     }
@@ -103,51 +114,68 @@ impl Role {
             Role::Skipfld | Role::Addbsi | Role::Mantissas | Role::AuxBits
         )
     }
+}
 
-    /// The role of a row: its number, and its programme.
-    fn of(number: i32, programme: i32) -> Role {
-        match number {
-            0 => Role::Plain,
-            1 => Role::Sync,
-            2 => Role::Crc1,
-            3 => Role::Crc2,
-            4 => Role::CrcRsv,
-            5 => Role::FrameSize,
-            6 => Role::Dialnorm(known(programme)),
-            7 => Role::ComprExists(known(programme)),
-            8 => Role::Compr(known(programme)),
-            9 => Role::DynrngExists(known(programme)),
-            10 => Role::Dynrng(known(programme)),
-            11 => Role::Skiple,
-            12 => Role::Skipl,
-            13 => Role::Skipfld,
-            14 => Role::Addbsi,
-            15 => Role::Mantissas,
-            16 => Role::AuxBits,
-            17 => Role::AuxDataL,
-            18 => Role::AuxDataE,
-            19 => Role::BlkStrtInfoE,
-            20 => Role::BlkStrtInfo,
-            _ => panic!("libferrysprig.a gave role {number}, which this crate does not know"),
-        }
+/// A role by its number and programme.
+#[inline(always)]
+pub(crate) fn role_of(number: i32, programme: i32) -> Role {
+    match number {
+        0 => Role::Plain,
+        1 => Role::Sync,
+        2 => Role::Crc1,
+        3 => Role::Crc2,
+        4 => Role::CrcRsv,
+        5 => Role::FrameSize,
+        6 => Role::Dialnorm(known(programme)),
+        7 => Role::ComprExists(known(programme)),
+        8 => Role::Compr(known(programme)),
+        9 => Role::DynrngExists(known(programme)),
+        10 => Role::Dynrng(known(programme)),
+        11 => Role::Skiple,
+        12 => Role::Skipl,
+        13 => Role::Skipfld,
+        14 => Role::Addbsi,
+        15 => Role::Mantissas,
+        16 => Role::AuxBits,
+        17 => Role::AuxDataL,
+        18 => Role::AuxDataE,
+        19 => Role::BlkStrtInfoE,
+        20 => Role::BlkStrtInfo,
+        _ => unknown(number),
     }
 }
 
 /// A number of the archive's in the type that has room for it. That it fits is proved; that the archive is the proved one is not.
-pub fn known<T: TryFrom<i32>>(number: i32) -> T {
-    T::try_from(number)
-        .unwrap_or_else(|_| panic!("libferrysprig.a gave {number}, which is out of range"))
+#[inline(always)]
+pub(crate) fn known<T: TryFrom<i32>>(number: i32) -> T {
+    T::try_from(number).unwrap_or_else(|_| unknown(number))
 }
 
-/// A row's eight numbers as a field.
-pub fn field(row: &[i32]) -> Field {
-    Field {
-        name: NAMES[known::<usize>(row[0]) - 1],
-        role: Role::of(row[1], row[2]),
-        block: known(row[3]),
-        index: known(row[4]),
-        pos: known(row[5]),
-        width: known(row[6]),
-        value: known(row[7]),
+/// A name by its number.
+#[inline(always)]
+pub(crate) fn name_of(number: i32) -> &'static str {
+    let place = (number as usize).wrapping_sub(1);
+    NAMES.get(place).unwrap_or_else(|| unknown(number))
+}
+
+#[cold]
+#[inline(never)]
+fn unknown(number: i32) -> ! {
+    panic!("libferrysprig.a gave {number}, which this crate does not know")
+}
+
+#[cfg(test)]
+mod tests {
+    use super::*;
+
+    #[test]
+    fn roles_are_those_of_the_header() {
+        let header = include_str!("../../c/ferrysprig.h");
+        let (_, table) = header.split_once("#define FERRYSPRIG_ROLES {").unwrap();
+        let (table, _) = table.split_once('}').unwrap();
+        let said: Vec<&str> = table.split('"').skip(1).step_by(2).collect();
+        let ours: Vec<String> = (0..21).map(|n| format!("{:?}", role_of(n, 1))).collect();
+        let spelt: Vec<&str> = ours.iter().map(|r| r.trim_end_matches("(1)")).collect();
+        assert_eq!(said, spelt);
     }
 }

@@ -1,13 +1,6 @@
 //! The archive's functions (c/ferrysprig.h) as safe ones. All unsafe code of the crate stands here.
 
-/// The numbers of an answer: refusal (0: accepted), rows written, bit, and the summary's 21.
-pub const ANSWER: usize = 24;
-
-/// The numbers of a row: name, role, programme, block, index, position, width, value.
-pub const ROW: usize = 8;
-
-/// The refusal that asks for more room.
-pub const NO_ROW_LEFT: i32 = 7;
+use crate::layout::{Answer, ANSWER_NUMBERS, ROWS, ROW_NUMBERS};
 
 extern "C" {
     fn ferrysprig_parse(
@@ -16,7 +9,7 @@ extern "C" {
         place: usize,
         rows: *mut i32,
         rows_len: usize,
-        answer: *mut [i32; ANSWER],
+        answer: *mut Answer,
     );
     fn ferrysprig_range_eq(
         x: *const u8,
@@ -30,10 +23,10 @@ extern "C" {
 }
 
 /// Parses the frame at byte `place` of `capture` into the lent `rows`; the answer, and the rows that it says were written.
-pub fn parse<'a>(capture: &[u8], place: usize, rows: &'a mut [i32]) -> ([i32; ANSWER], &'a [i32]) {
-    let mut answer = [0; ANSWER];
-    // SAFETY: each pointer and length is that of a slice or an array that lives through the call; `rows` and `answer` are borrowed mutably, so
-    // nothing else refers to them. The function asks nothing more of its caller, writes only there, and keeps no pointer.
+pub fn parse<'a>(capture: &[u8], place: usize, rows: &'a mut [i32]) -> (Answer, &'a [i32]) {
+    let mut answer = [0; ANSWER_NUMBERS];
+    // SAFETY: each pointer and length is that of a slice or an array that lives through the call; `rows` and `answer` are borrowed mutably,
+    // so nothing else refers to them. The function asks nothing more of its caller, writes only there, and keeps no pointer.
     unsafe {
         ferrysprig_parse(
             capture.as_ptr(),
@@ -45,9 +38,9 @@ pub fn parse<'a>(capture: &[u8], place: usize, rows: &'a mut [i32]) -> ([i32; AN
         );
     }
     // A count is a length only if it fits the room. It always does, which is proved; that the archive is the proved one is not.
-    let written = usize::try_from(answer[1])
+    let written = usize::try_from(answer[ROWS])
         .ok()
-        .and_then(|count| rows.get(..count.checked_mul(ROW)?));
+        .and_then(|count| rows.get(..count.checked_mul(ROW_NUMBERS)?));
     (
         answer,
         written.expect("libferrysprig.a wrote more rows than there is room for"),
@@ -55,7 +48,7 @@ pub fn parse<'a>(capture: &[u8], place: usize, rows: &'a mut [i32]) -> ([i32; AN
 }
 
 pub fn range_eq(x: &[u8], a: usize, y: &[u8], b: usize, n: usize) -> bool {
-    // SAFETY: each pointer and length is that of a slice that lives through the call. The function asks nothing more of its caller, writes nowhere,
-    // and keeps no pointer; its answer is C's bool, which is Rust's.
+    // SAFETY: each pointer and length is that of a slice that lives through the call. The function asks nothing more of its caller, writes
+    // nowhere, and keeps no pointer; its answer is C's bool, which is Rust's.
     unsafe { ferrysprig_range_eq(x.as_ptr(), x.len(), a, y.as_ptr(), y.len(), b, n) }
 }

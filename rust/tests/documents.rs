@@ -2,12 +2,8 @@
 
 mod files;
 
-use ferrysprig::{parse, Refusal, NAMES, REFUSALS};
-use std::fs;
-
-fn text(below_top: &str) -> String {
-    fs::read_to_string(files::path(below_top)).unwrap()
-}
+use ferrysprig::{parse, MOST_BYTES, MOST_ROWS, NAMES, REFUSALS, ROW_NUMBERS};
+use files::text;
 
 #[test]
 fn names_are_those_of_the_list() {
@@ -23,42 +19,47 @@ fn names_are_those_of_the_list() {
     assert_eq!(named, NAMES);
 }
 
-#[test]
-fn refusals_say_what_the_header_says() {
+/// The texts of a table of the header's.
+fn table(name: &str) -> Vec<String> {
     let header = text("c/ferrysprig.h");
-    let (_, table) = header.split_once("#define FERRYSPRIG_MEANINGS").unwrap();
+    let (_, table) = header.split_once(&format!("#define {name} {{")).unwrap();
     let (table, _) = table.split_once('}').unwrap();
-    let said: Vec<&str> = table.split('"').skip(1).step_by(2).collect();
-    assert_eq!(said[0], "accepted");
-    assert_eq!(said[1..], REFUSALS);
+    table
+        .split('"')
+        .skip(1)
+        .step_by(2)
+        .map(String::from)
+        .collect()
+}
+
+/// A number that the header defines.
+fn number(name: &str) -> usize {
+    let header = text("c/ferrysprig.h");
+    let (_, rest) = header.split_once(&format!("#define {name} ")).unwrap();
+    rest.split_whitespace().next().unwrap().parse().unwrap()
 }
 
 #[test]
-fn each_refusal_has_a_text_of_its_own() {
-    for (place, meaning) in REFUSALS.iter().enumerate() {
-        let refusal = Refusal {
-            number: place as u8 + 1,
-            rows: Vec::new(),
-            bit: 7,
-        };
-        assert_eq!(refusal.meaning(), *meaning);
-        assert_eq!(
-            refusal.to_string(),
-            format!("refusal {} at bit 7: {meaning}", place + 1)
-        );
-        assert_eq!(REFUSALS.iter().filter(|other| *other == meaning).count(), 1);
-    }
-    for number in [0, 21, 255] {
-        assert_eq!(
-            Refusal {
-                number,
-                rows: Vec::new(),
-                bit: 0
-            }
-            .meaning(),
-            "no refusal has this number"
-        );
-    }
+fn texts_are_those_of_the_header() {
+    assert_eq!(table("FERRYSPRIG_NAMES")[1..], NAMES);
+    let meanings = table("FERRYSPRIG_MEANINGS");
+    assert_eq!(meanings[0], "accepted");
+    assert_eq!(meanings[1..], *REFUSALS);
+}
+
+#[test]
+fn numbers_are_those_of_the_header() {
+    assert_eq!(ROW_NUMBERS, number("FERRYSPRIG_ROW_NUMBERS"));
+    assert_eq!(MOST_ROWS, number("FERRYSPRIG_MOST_ROWS"));
+    assert_eq!(MOST_BYTES, number("FERRYSPRIG_MOST_BYTES"));
+    let proved = text("crates/ac3/specs/RowBound.antt");
+    assert!(proved.contains(&format!("\nmostRows = {MOST_ROWS}\n")));
+    let version = env!("CARGO_PKG_VERSION");
+    assert!(text("c/ferrysprig.h").contains(&format!("#define FERRYSPRIG_VERSION \"{version}\"\n")));
+    let of_version = version
+        .split('.')
+        .fold(0, |sum, part| 100 * sum + part.parse::<usize>().unwrap());
+    assert_eq!(of_version, number("FERRYSPRIG_VERSION_NUMBER"));
 }
 
 #[test]

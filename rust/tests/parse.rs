@@ -2,21 +2,18 @@
 
 mod files;
 
-use ferrysprig::{parse, parse_at, parse_into, Field, Role};
+use ferrysprig::{
+    parse, parse_at, parse_into, Field, Parser, Role, MOST_BYTES, MOST_ROWS, ROW_NUMBERS,
+};
+use std::cell::RefCell;
+use std::sync::mpsc::{channel, Sender};
+use std::thread;
 
-/// Document 01's example: fscod 3.
+/// fscod 3: refused after four fields.
 const EXAMPLE: [u8; 6] = [0x0B, 0x77, 0, 0, 0xC0, 0];
 
 fn first_fields() -> Vec<Field> {
-    let field = |name, role, pos, width, value| Field {
-        name,
-        role,
-        block: -1,
-        index: -1,
-        pos,
-        width,
-        value,
-    };
+    let field = |name, role, pos, width, value| Field::new(name, role, -1, -1, pos, width, value);
     vec![
         field("syncword", Role::Sync, 0, 16, 2935),
         field("crc1", Role::Crc1, 16, 16, 0),
@@ -35,7 +32,7 @@ fn marked(numbers: usize) -> Vec<i32> {
 }
 
 #[test]
-fn document_01s_example() {
+fn the_example() {
     let refusal = parse(&EXAMPLE).unwrap_err();
     assert_eq!((refusal.number, refusal.bit), (3, 40));
     assert_eq!(refusal.rows, first_fields());
@@ -69,10 +66,10 @@ fn a_place_in_a_capture_and_past_its_end() {
 
 #[test]
 fn rooms_too_small_hold_what_fits() {
-    for numbers in 0..40 {
+    for numbers in 0..5 * ROW_NUMBERS {
         let mut rows = marked(numbers);
         let refusal = parse_into(&EXAMPLE, 0, &mut rows).unwrap_err();
-        let fit = (numbers / 8).min(4);
+        let fit = (numbers / ROW_NUMBERS).min(4);
         let (number, bit) = if fit == 4 {
             (3, 40)
         } else {
@@ -85,7 +82,7 @@ fn rooms_too_small_hold_what_fits() {
         );
         assert_eq!(refusal.rows, first_fields()[..fit]);
         assert!(
-            (fit * 8..numbers).all(|i| rows[i] == mark(i)),
+            (fit * ROW_NUMBERS..numbers).all(|i| rows[i] == mark(i)),
             "{numbers} numbers: the rest was touched"
         );
     }
@@ -96,18 +93,136 @@ fn one_row_too_few_of_an_accepted_frame() {
     let (_, stream) = &files::frames()[0];
     let frame = parse(stream).unwrap();
     let all = frame.fields.len();
-    let refusal = parse_into(stream, 0, &mut marked(8 * all - 1)).unwrap_err();
+    let mut room = marked(ROW_NUMBERS * all);
+    let refusal = parse_into(stream, 0, &mut room[1..]).unwrap_err();
     assert_eq!((refusal.number, refusal.bit), (7, frame.summary.audio_end));
     assert_eq!(refusal.rows, frame.fields[..all - 1]);
-    assert_eq!(parse_into(stream, 0, &mut marked(8 * all)).unwrap(), frame);
+    let given = parse_into(stream, 0, &mut room).map(|frame| frame.to_frame());
+    assert_eq!(given.unwrap(), frame);
 }
 
 #[test]
-fn frames_with_more_rows_than_the_first_room() {
-    let stream = files::frame("speed-c.ac3");
+fn a_parser_gives_what_parse_gives() {
+    let mut parser = Parser::new();
+    let mut most = 0;
+    for (name, stream) in files::frames() {
+        let mut place = 0;
+        while let Ok(frame) = parse_at(&stream, place) {
+            let lent = parser.parse_at(&stream, place).unwrap();
+            assert_eq!(
+                lent.total_bits(),
+                frame.total_bits(),
+                "{name}, byte {place}"
+            );
+            assert_eq!(lent.fields.len(), frame.fields.len());
+            assert!(lent
+                .fields
+                .clone()
+                .rev()
+                .eq(frame.fields.iter().rev().cloned()));
+            assert_eq!(lent.fields.clone().nth(3).as_ref(), frame.fields.get(3));
+            assert_eq!(lent.to_frame(), frame, "{name}, byte {place}");
+            most = most.max(frame.fields.len());
+            place += frame.summary.bytes;
+        }
+        assert_eq!(
+            parser.parse_at(&stream, place).unwrap_err(),
+            parse_at(&stream, place).unwrap_err()
+        );
+    }
+    assert!(most > 1024, "{most} rows");
+}
+
+/// Bits, written one value after the other.
+struct Writer {
+    bytes: Vec<u8>,
+    at: usize,
+}
+
+impl Writer {
+    fn put(&mut self, width: usize, value: usize) {
+        for i in (0..width).rev() {
+            self.bytes[self.at / 8] |= ((value >> i & 1) as u8) << (7 - self.at % 8);
+            self.at += 1;
+        }
+    }
+
+    fn repeat(&mut self, times: usize, width: usize, value: usize) {
+        (0..times).for_each(|_| self.put(width, value));
+    }
+
+    /// A first exponent, and groups that repeat it.
+    fn exponents(&mut self, groups: usize) {
+        self.put(4, 9);
+        self.repeat(groups, 7, 62);
+    }
+}
+
+/// All that a header of bsid 6 and 3/2 with LFE can hold, and in every block two channels coupled from the lowest sub-band on, everything
+/// sent anew, exponents D15, and eight delta segments for each slot. No mantissa has a bit.
+fn frame_of_most_rows() -> Vec<u8> {
+    let mut w = Writer {
+        bytes: vec![0; MOST_BYTES],
+        at: 0,
+    };
+    w.put(32, 0x0B77_0000);
+    w.put(8, 2 << 6 | 37); // fscod, frmsizecod
+    w.put(11, 6 << 6 | 7); // bsid, bsmod, acmod
+    w.put(5, 1); // cmixlev, surmixlev, lfeon
+    w.put(14, 1 << 8); // dialnorm, compre, compr
+    w.put(9, 1 << 8); // langcode, langcod
+    w.put(8, 1 << 7); // audprodie, mixlevel, roomtyp
+    w.put(2, 0); // copyrightb, origbs
+    w.put(15, 1 << 14); // xbsi1e and its five
+    w.put(15, 1 << 14); // xbsi2e and its five
+    w.put(7, 1 << 6); // addbsie, addbsil
+    w.put(8, 0); // addbsi
+    for _ in 0..6 {
+        w.repeat(5 + 5, 1, 0); // blksw, dithflag
+        w.put(9, 1 << 8); // dynrnge, dynrng
+        w.put(2, 3); // cplstre, cplinu
+        w.put(5, 0b11000); // chincpl
+        w.put(8, 15); // cplbegf, cplendf
+        w.repeat(17, 1, 0); // cplbndstrc
+        for _ in 0..2 {
+            w.put(3, 1 << 2); // cplcoe, mstrcplco
+            w.repeat(18, 8, 0); // cplcoexp, cplcomant
+        }
+        w.repeat(1 + 5, 2, 1); // cplexpstr, chexpstr
+        w.put(1, 1); // lfeexpstr
+        w.repeat(3, 6, 60); // chbwcod
+        w.exponents(72); // coupling
+        for groups in [12, 12, 84, 84, 84] {
+            w.exponents(groups);
+            w.put(2, 0); // gainrng
+        }
+        w.exponents(2); // LFE
+        w.put(12, 1 << 11); // baie and its five
+        w.put(7, 1 << 6); // snroffste, csnroffst
+        w.repeat(7, 7, 0); // fine offsets and gain codes
+        w.put(7, 1 << 6); // cplleake, cplfleak, cplsleak
+        w.put(1, 1); // deltbaie
+        w.repeat(6, 2, 1); // cpldeltbae, deltbae
+        for _ in 0..6 {
+            w.put(3, 7); // deltnseg
+            w.repeat(8, 12, 0); // deltoffst, deltlen, deltba
+        }
+        w.put(10, 1 << 9); // skiple, skipl
+    }
+    w.bytes
+}
+
+#[test]
+fn a_frame_of_most_rows_needs_that_room_and_no_more() {
+    let stream = frame_of_most_rows();
     let frame = parse(&stream).unwrap();
-    assert!(frame.fields.len() > 1024, "{} rows", frame.fields.len());
-    assert_eq!(frame.fields.last().unwrap().end(), frame.summary.audio_end);
+    assert_eq!(frame.fields.len(), MOST_ROWS);
+    assert_eq!(frame.summary.bytes, MOST_BYTES);
+    let mut room = marked(MOST_ROWS * ROW_NUMBERS);
+    let refusal = parse_into(&stream, 0, &mut room[1..]).unwrap_err();
+    assert_eq!((refusal.number, refusal.rows.len()), (7, MOST_ROWS - 1));
+    let original = judge::ac3::parse(&stream).unwrap();
+    assert_eq!(original.audio_end, frame.summary.audio_end);
 }
 
 #[test]
@@ -129,6 +244,22 @@ fn a_frame_one_byte_short_and_bytes_after_it() {
 fn fields_are_found_by_role_and_name() {
     let stream = files::frame("rate-192-2_0-tones.ac3");
     let frame = parse(&stream).unwrap();
+    let mut parser = Parser::new();
+    let lent = parser.parse(&stream).unwrap();
+    for role in [
+        Role::Dialnorm(0),
+        Role::Dialnorm(1),
+        Role::DynrngExists(0),
+        Role::Plain,
+    ] {
+        assert!(lent.all(role).eq(frame.all(role).cloned()));
+        for block in [-1, 0, 5] {
+            assert_eq!(lent.find(role, block).as_ref(), frame.find(role, block));
+            assert_eq!(lent.value(role, block), frame.value(role, block));
+        }
+    }
+    assert_eq!(lent.named("acmod").as_ref(), frame.named("acmod"));
+    assert_eq!(lent.named("dialnorm2"), None);
     let dialnorm = frame.find(Role::Dialnorm(0), -1).unwrap();
     assert_eq!(frame.named("dialnorm"), Some(dialnorm));
     assert_eq!(frame.value(Role::Dialnorm(0), -1), Some(dialnorm.value));
@@ -145,6 +276,28 @@ fn fields_are_found_by_role_and_name() {
     );
     assert_eq!(mantissas[5].end(), frame.summary.audio_end);
     assert_eq!(frame.total_bits(), 8 * 768);
+}
+
+/// What a thread keeps for `parse` is gone when its last destructors run: whichever runs first, one of these two parses before that and one
+/// after.
+#[test]
+fn parse_answers_while_its_thread_ends() {
+    struct Parses(Sender<u8>);
+    impl Drop for Parses {
+        fn drop(&mut self) {
+            let refusal = parse(&EXAMPLE).unwrap_err();
+            self.0.send(refusal.number).unwrap();
+        }
+    }
+    thread_local!(static FIRST: RefCell<Option<Parses>> = const { RefCell::new(None) });
+    thread_local!(static LAST: RefCell<Option<Parses>> = const { RefCell::new(None) });
+    let (sender, receiver) = channel();
+    thread::spawn(move || {
+        FIRST.with(|kept| kept.replace(Some(Parses(sender.clone()))));
+        parse(&EXAMPLE).unwrap_err();
+        LAST.with(|kept| kept.replace(Some(Parses(sender))));
+    });
+    assert_eq!(receiver.iter().collect::<Vec<_>>(), [3, 3]);
 }
 
 /// Every frame with bytes exchanged, from a fixed seed: an answer, and fields that lie end to end.

@@ -1,12 +1,9 @@
 //! What `range_eq` answers: the original's answer where it has one, and false past an end.
 
-#[rustfmt::skip]
-#[allow(dead_code)]
-#[path = "../../judge/ddpmeta/bits.rs"]
-mod bits;
 mod files;
 
 use ferrysprig::range_eq;
+use judge::bits;
 
 #[test]
 fn the_originals_answer_inside_and_false_past_an_end() {

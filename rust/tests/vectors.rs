@@ -2,7 +2,7 @@
 
 mod files;
 
-use ferrysprig::{parse_into, Frame, Refusal};
+use ferrysprig::{parse_into, Frame, Refusal, REFUSALS};
 use std::fs;
 
 fn bytes(hex: &str) -> Vec<u8> {
@@ -32,16 +32,9 @@ fn words(answer: Result<Frame, Refusal>, room: &[i32]) -> Vec<usize> {
     let sum = checksum(room) as usize;
     match answer {
         Err(refusal) => vec![refusal.number.into(), refusal.rows.len(), refusal.bit, sum],
-        Ok(Frame { fields, summary: s }) => {
-            let mut words = vec![
-                0,
-                fields.len(),
-                s.audio_end,
-                sum,
-                fields.len(),
-                s.bytes,
-                s.audio_end,
-            ];
+        Ok(frame) => {
+            let (rows, s) = (frame.fields.len(), frame.summary);
+            let mut words = vec![0, rows, s.audio_end, sum, rows, s.bytes, s.audio_end];
             words.extend([
                 s.bsid.into(),
                 s.acmod.into(),
@@ -56,11 +49,30 @@ fn words(answer: Result<Frame, Refusal>, room: &[i32]) -> Vec<usize> {
     }
 }
 
+/// The last fields of a refusal are those that its documentation names.
+fn last_fields(refusal: &Refusal) {
+    let names: Vec<&str> = refusal.rows.iter().rev().map(|f| f.name).collect();
+    let last = names.first().copied().unwrap_or_default();
+    let expected = match refusal.number {
+        2 => last == "syncword",
+        3 => names[..2] == ["frmsizecod", "fscod"],
+        5 => last == "bsid",
+        8 => ["cplstre", "rematstr", "baie", "snroffste"].contains(&last),
+        9 => names[..2] == ["cplendf", "cplbegf"],
+        11 => last == "chbwcod",
+        16 | 17 => ["cplexps", "exps[ch]", "lfeexps"].contains(&last),
+        18 | 19 => ["cpldeltbae", "deltbae"].contains(&last),
+        _ => true,
+    };
+    assert!(expected, "refusal {} after {last}", refusal.number);
+}
+
 #[test]
 fn every_case_of_the_list() {
     let list = fs::read_to_string(files::path("judge/vectors/list.txt")).unwrap();
     let mut frame = Vec::new();
     let mut cases = 0;
+    let mut met = [false; REFUSALS.len() + 1];
     for line in list.lines().filter(|line| !line.starts_with('#')) {
         if let Some(hex) = line.strip_prefix("frame ") {
             frame = bytes(hex);
@@ -84,10 +96,16 @@ fn every_case_of_the_list() {
         let mut room: Vec<i32> = (0..numbers.parse().unwrap())
             .map(|i| 1_000_000 + i)
             .collect();
-        let given = parse_into(&capture, place.parse().unwrap(), &mut room);
+        let given =
+            parse_into(&capture, place.parse().unwrap(), &mut room).map(|frame| frame.to_frame());
+        if let Err(refusal) = &given {
+            last_fields(refusal);
+            met[usize::from(refusal.number)] = true;
+        }
         let expected: Vec<usize> = answer.split(' ').map(|n| n.parse().unwrap()).collect();
         assert_eq!(words(given, &room), expected, "{line}");
         cases += 1;
     }
     assert!(cases > 10_000, "{cases} cases");
+    assert_eq!(met.iter().filter(|met| **met).count(), REFUSALS.len());
 }

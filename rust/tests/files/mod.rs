@@ -9,6 +9,10 @@ pub fn path(below_top: &str) -> PathBuf {
     PathBuf::from(concat!(env!("CARGO_MANIFEST_DIR"), "/..")).join(below_top)
 }
 
+pub fn text(below_top: &str) -> String {
+    fs::read_to_string(path(below_top)).unwrap()
+}
+
 /// The encoder's frames, by file, in the order of their names.
 pub fn frames() -> Vec<(String, Vec<u8>)> {
     let mut files: Vec<_> = fs::read_dir(path("judge/frames"))

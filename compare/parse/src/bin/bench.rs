@@ -1,6 +1,8 @@
-//! bench FILE PASSES [port|rust]: parses every frame of FILE, PASSES times, by both or by one (for callgrind), and prints the best pass of each.
+//! bench FILE PASSES [WAY]: parses every frame of FILE, PASSES times, in every way or in one (for callgrind), and prints the best pass of
+//! each. The ways: `port`, the archive alone; `parser`, the Rust crate's `Parser` and the gain words by their role; `fields`, the same and
+//! every field; `parse`, the crate's `parse`, which makes a list; `rust`, the original.
 
-use compare_parse::parse;
+use ferrysprig::{Parser, Role};
 use judge::tables::ac3_frame_words;
 use std::hint::black_box;
 use std::time::Instant;
@@ -37,16 +39,39 @@ fn main() {
     let args: Vec<String> = std::env::args().skip(1).collect();
     let stream = std::fs::read(&args[0]).expect("a file");
     let passes = args[1].parse().expect("PASSES is a number");
-    let which = args.get(2).map_or("both", String::as_str);
+    let wanted = |way: &str| args.get(2).is_none_or(|only| only == way);
     let frames = frames(&stream);
-    let mut rows = vec![0i32; 8 * 4096];
-    if which != "rust" {
+    if wanted("port") {
+        let mut rows = vec![0i32; ferrysprig::ROW_NUMBERS * ferrysprig::MOST_ROWS];
         best("port", passes, &frames, |f| {
-            let answer = parse(black_box(f), 0, &mut rows);
+            let answer = compare_parse::parse(black_box(f), 0, &mut rows);
             assert_eq!(black_box(answer)[0], 0);
         });
     }
-    if which != "port" {
+    if wanted("parser") {
+        let mut parser = Parser::new();
+        best("parser", passes, &frames, |f| {
+            let frame = parser.parse(black_box(f)).expect("accepted");
+            frame.all(Role::Dynrng(0)).for_each(|gain| {
+                black_box(gain.value);
+            });
+        });
+    }
+    if wanted("fields") {
+        let mut parser = Parser::new();
+        best("fields", passes, &frames, |f| {
+            let frame = parser.parse(black_box(f)).expect("accepted");
+            frame.fields.for_each(|field| {
+                black_box(&field);
+            });
+        });
+    }
+    if wanted("parse") {
+        best("parse", passes, &frames, |f| {
+            black_box(ferrysprig::parse(black_box(f))).expect("accepted");
+        });
+    }
+    if wanted("rust") {
         best("rust", passes, &frames, |f| {
             black_box(judge::ac3::parse(black_box(f))).expect("accepted");
         });

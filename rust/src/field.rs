@@ -1,0 +1,128 @@
+//! Fields, by themselves and in a lent room.
+
+use crate::layout::{field, role, ROW_NUMBERS};
+use crate::Role;
+use std::iter::FusedIterator;
+use std::slice::ChunksExact;
+
+/// A syntax element of the frame.
+#[derive(Clone, Debug, PartialEq, Eq)]
+#[non_exhaustive]
+pub struct Field {
+    /// One of [`NAMES`](crate::NAMES).
+    pub name: &'static str,
+    /// What it means to an editor.
+    pub role: Role,
+    /// Audio block, or -1 outside blocks.
+    pub block: i8,
+    /// Channel or array index where the syntax has one, else -1.
+    pub index: i16,
+    /// Bit position from the start of the frame (the first bit of the sync word).
+    pub pos: usize,
+    /// In bits; 0 for a span without content.
+    pub width: usize,
+    /// The bits as a number; 0 for spans.
+    pub value: u32,
+}
+
+impl Field {
+    /// An element that the caller reads itself, such as those of the tail, in the order of the parts above.
+    pub fn new(
+        name: &'static str,
+        role: Role,
+        block: i8,
+        index: i16,
+        pos: usize,
+        width: usize,
+        value: u32,
+    ) -> Field {
+        Field {
+            name,
+            role,
+            block,
+            index,
+            pos,
+            width,
+            value,
+        }
+    }
+
+    /// The first bit after it.
+    pub fn end(&self) -> usize {
+        self.pos + self.width
+    }
+}
+
+/// The fields of the rows in a lent room, each made when it is asked for: nothing is allocated.
+#[derive(Clone, Debug)]
+pub struct Fields<'a> {
+    rows: ChunksExact<'a, i32>,
+}
+
+/// What the tail can add to a list: auxbits, auxdatal, auxdatae, crcrsv, crc2.
+const TAIL_FIELDS: usize = 5;
+
+impl<'a> Fields<'a> {
+    pub(crate) fn new(written: &'a [i32]) -> Fields<'a> {
+        Fields {
+            rows: written.chunks_exact(ROW_NUMBERS),
+        }
+    }
+
+    /// A list, with room for the tail's.
+    pub(crate) fn list(self) -> Vec<Field> {
+        let mut list = Vec::with_capacity(self.len() + TAIL_FIELDS);
+        for row in self.rows {
+            list.push(of(row));
+        }
+        list
+    }
+
+    /// Those of a role; no field is made for the others.
+    #[inline]
+    pub(crate) fn of_role(self, wanted: Role) -> impl Iterator<Item = Field> + 'a {
+        self.rows
+            .filter(move |row| role(whole(row)) == wanted)
+            .map(of)
+    }
+}
+
+#[inline(always)]
+fn whole(row: &[i32]) -> &[i32; ROW_NUMBERS] {
+    row.try_into().expect("chunks have that length")
+}
+
+#[inline(always)]
+fn of(row: &[i32]) -> Field {
+    field(whole(row))
+}
+
+impl Iterator for Fields<'_> {
+    type Item = Field;
+
+    #[inline]
+    fn next(&mut self) -> Option<Field> {
+        self.rows.next().map(of)
+    }
+
+    #[inline]
+    fn nth(&mut self, n: usize) -> Option<Field> {
+        self.rows.nth(n).map(of)
+    }
+
+    #[inline]
+    fn size_hint(&self) -> (usize, Option<usize>) {
+        self.rows.size_hint()
+    }
+}
+
+impl DoubleEndedIterator for Fields<'_> {
+    #[inline]
+    fn next_back(&mut self) -> Option<Field> {
+        self.rows.next_back().map(of)
+    }
+}
+
+impl ExactSizeIterator for Fields<'_> {}
+
+impl FusedIterator for Fields<'_> {}

@@ -1,0 +1,184 @@
+//! What comes of parsing: a frame, in a list of its own or in lent room, or a refusal.
+
+use crate::{Field, Fields, Role, REFUSALS};
+use std::fmt;
+
+/// What an accepted frame says of itself.
+#[derive(Clone, Debug, PartialEq, Eq)]
+#[non_exhaustive]
+pub struct Summary {
+    /// The frame's length: the next frame starts so many bytes on.
+    pub bytes: usize,
+    /// The first bit after the last block's mantissas: where the tail starts.
+    pub audio_end: usize,
+    /// The version of the syntax, at most 8.
+    pub bsid: u8,
+    /// Which channels there are.
+    pub acmod: u8,
+    /// Whether there is an LFE channel.
+    pub lfeon: bool,
+    /// The code of the sample rate.
+    pub fscod: u8,
+    /// How many blocks use coupling.
+    pub cpl_blocks: usize,
+    /// Bit positions of each block's first element.
+    pub block_starts: [usize; 6],
+    /// Bit positions of each block's mantissas.
+    pub mantissa_starts: [usize; 6],
+    /// Whether every coupled channel sent coordinates in the first block that uses coupling; yes where none does.
+    pub coordinates_sent: bool,
+}
+
+/// An accepted frame.
+#[derive(Clone, Debug, PartialEq, Eq)]
+#[non_exhaustive]
+pub struct Frame {
+    /// End to end from bit 0 to `audio_end`.
+    pub fields: Vec<Field>,
+    /// What the frame says of itself.
+    pub summary: Summary,
+}
+
+impl Frame {
+    /// The frame's length in bits, tail included.
+    pub fn total_bits(&self) -> usize {
+        self.summary.bytes * 8
+    }
+
+    /// The first element of a role in a block (-1: outside blocks).
+    pub fn find(&self, role: Role, block: i8) -> Option<&Field> {
+        self.fields
+            .iter()
+            .find(|f| f.role == role && f.block == block)
+    }
+
+    /// Every element of a role.
+    pub fn all(&self, role: Role) -> impl Iterator<Item = &Field> {
+        self.fields.iter().filter(move |f| f.role == role)
+    }
+
+    /// The value of the first element of a role in a block (-1: outside blocks).
+    pub fn value(&self, role: Role, block: i8) -> Option<u32> {
+        self.find(role, block).map(|f| f.value)
+    }
+
+    /// The first element of a name.
+    pub fn named(&self, name: &str) -> Option<&Field> {
+        self.fields.iter().find(|f| f.name == name)
+    }
+}
+
+/// An accepted frame whose rows stand in a lent room. Its functions are those of [`Frame`].
+#[derive(Clone, Debug)]
+#[non_exhaustive]
+pub struct FrameRef<'a> {
+    /// End to end from bit 0 to `audio_end`. A clone starts at the first one again.
+    pub fields: Fields<'a>,
+    /// What the frame says of itself.
+    pub summary: Summary,
+}
+
+impl<'a> FrameRef<'a> {
+    /// The frame's length in bits, tail included.
+    pub fn total_bits(&self) -> usize {
+        self.summary.bytes * 8
+    }
+
+    /// The first element of a role in a block (-1: outside blocks).
+    pub fn find(&self, role: Role, block: i8) -> Option<Field> {
+        self.all(role).find(|f| f.block == block)
+    }
+
+    /// Every element of a role.
+    pub fn all(&self, role: Role) -> impl Iterator<Item = Field> + 'a {
+        self.fields.clone().of_role(role)
+    }
+
+    /// The value of the first element of a role in a block (-1: outside blocks).
+    pub fn value(&self, role: Role, block: i8) -> Option<u32> {
+        self.find(role, block).map(|f| f.value)
+    }
+
+    /// The first element of a name.
+    pub fn named(&self, name: &str) -> Option<Field> {
+        self.fields.clone().find(|f| f.name == name)
+    }
+
+    /// The frame with a list of its own.
+    pub fn to_frame(&self) -> Frame {
+        Frame {
+            fields: self.fields.clone().list(),
+            summary: self.summary.clone(),
+        }
+    }
+}
+
+/// Why a frame was not accepted, and how far it was read.
+#[derive(Clone, Debug, PartialEq, Eq)]
+#[non_exhaustive]
+pub struct Refusal {
+    /// 1 to 20.
+    pub number: u8,
+    /// What was read before, end to end from bit 0. The last one has the bad value at refusals 2, 5, 8, 11 and 16 to 19. At 3 it is one of
+    /// the last two, fscod and frmsizecod; at 9 both of them together, cplbegf and cplendf. At 10, 12 to 15 and 20 the last one is not to
+    /// blame, but what was sent, or never sent, before; at 1, 4, 6 and 7 input, frame or room end too early.
+    pub rows: Vec<Field>,
+    /// The first bit not yet read.
+    pub bit: usize,
+}
+
+impl Refusal {
+    /// What the number means.
+    pub fn meaning(&self) -> &'static str {
+        usize::from(self.number)
+            .checked_sub(1)
+            .and_then(|n| REFUSALS.get(n))
+            .unwrap_or(&"no refusal has this number")
+    }
+}
+
+impl fmt::Display for Refusal {
+    fn fmt(&self, f: &mut fmt::Formatter<'_>) -> fmt::Result {
+        write!(
+            f,
+            "refusal {} at bit {}: {}",
+            self.number,
+            self.bit,
+            self.meaning()
+        )
+    }
+}
+
+impl std::error::Error for Refusal {}
+
+#[cfg(test)]
+mod tests {
+    use super::*;
+
+    fn refusal(number: u8) -> Refusal {
+        Refusal {
+            number,
+            rows: Vec::new(),
+            bit: 7,
+        }
+    }
+
+    #[test]
+    fn each_refusal_has_a_text_of_its_own() {
+        for (number, meaning) in (1..).zip(REFUSALS) {
+            assert_eq!(refusal(number).meaning(), *meaning);
+            assert_eq!(
+                refusal(number).to_string(),
+                format!("refusal {number} at bit 7: {meaning}")
+            );
+            assert_eq!(REFUSALS.iter().filter(|other| *other == meaning).count(), 1);
+        }
+    }
+
+    #[test]
+    fn other_numbers_are_no_refusals() {
+        for number in [0, REFUSALS.len() as u8 + 1, 255] {
+            assert_eq!(refusal(number).meaning(), "no refusal has this number");
+        }
+    }
+}

@@ -10,7 +10,7 @@ use Rattle.syntax.specs.Place.{Outcome, got, no, exec, andThen, fresh}
 use Rattle.header.specs.Header.{header}
 use Rattle.header.specs.declared.Header.{Header}
 use Rattle.ac3.specs.Frame.{audio, noSummary, answered}
-use Rattle.ac3.specs.Promise.{Call, input, answerTo}
+use Rattle.ac3.specs.Promise.{Call, input, withRoom, answerTo}
 use Rattle.ac3.specs.declared.Answer.{Answer}
 
 -- refusal 0: the header was read to its end, and the bit is the first one after it
@@ -55,9 +55,6 @@ blocksTo c claim =
     (unfit, c .room)
 
 -- ---- both in turn
-
-abbrev pub withRoom : List ℤ → Call → Call
-withRoom room c = record { capture = c .capture; place = c .place; room = room }
 
 abbrev pub endedAt : HeaderAnswer → Answer
 endedAt h = record { refusal = h .refusal; rows = h .rows; bit = h .bit; summary = noSummary }

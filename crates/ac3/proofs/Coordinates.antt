@@ -1,5 +1,5 @@
--- No section of a block is handed the flag, so blocks from what is carried with another flag are the same grammar, but for the flag in the answer.
--- Assumes nothing.
+-- No section of a block is handed the flag, so blocks from what is carried with another flag are the same grammar, but for the flag in the
+-- answer. Assumes nothing.
 use mathlib.Core.Bool.{Bool, false}
 use mathlib.Core.List.{List}
 use mathlib.Core.Path.{_≡_, refl, ap, sym, _∙_}

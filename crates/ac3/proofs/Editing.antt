@@ -1,5 +1,5 @@
--- Every row is of its name's kind, so rows of editable names are those whose values steer nothing, and demand 3 of the grammar says what new bits in
--- them do. Assumes nothing.
+-- Every row is of its name's kind, so rows of editable names are those whose values steer nothing, and demand 3 of the grammar says what
+-- new bits in them do. Assumes nothing.
 use mathlib.Core.Bool.{Bool, true, false, not, _||_}
 use mathlib.Core.List.{List, [], _∷_}
 use mathlib.Core.Path.{_≡_, refl, ap, sym, _∙_}

@@ -1,5 +1,5 @@
--- How much room is left is asked for only where a row is written, and there only whether there is any: so a run that did not end for want of room
--- does the same with more of it. Assumes nothing.
+-- How much room is left is asked for only where a row is written, and there only whether there is any: so a run that did not end for want
+-- of room does the same with more of it. Assumes nothing.
 use mathlib.Core.Bool.{Bool, true, false, cond}
 use mathlib.Core.List.{List, [], _∷_}
 use mathlib.Core.Path.{_≡_, refl, ap, sym, _∙_}

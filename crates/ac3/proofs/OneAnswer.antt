@@ -1,4 +1,5 @@
--- Two things that are equal to a third are equal; what is seen of a reader is an equation, and the promise of the parser leaves no choice. Assumes nothing.
+-- Two things that are equal to a third are equal; what is seen of a reader is an equation, and the promise of the parser leaves no choice.
+-- Assumes nothing.
 use mathlib.Core.List.{List, []}
 use mathlib.Core.Path.{_≡_, sym, _∙_}
 use lib.IntN.{ℤ}

@@ -1,4 +1,5 @@
--- "Coordinates sent" is told and decides nothing: whatever rule makes the flag, all else of every answer is the same, so what is accepted is too.
+-- "Coordinates sent" is told and decides nothing: whatever rule makes the flag, all else of every answer is the same, so what is accepted
+-- is too.
 use mathlib.Core.Bool.{Bool, false}
 use mathlib.Core.List.{List}
 use mathlib.Core.Path.{_≡_}

@@ -1,5 +1,5 @@
--- More room changes nothing but refusal 7. So with room for the most rows that a frame can have every answer, and the rows that were written, are
--- what they are with any more room.
+-- More room changes nothing but refusal 7. So with room for the most rows that a frame can have every answer, and the rows that were
+-- written, are what they are with any more room.
 use mathlib.Core.List.{List}
 use mathlib.Core.Path.{_≡_}
 use Prim.Native.Nat.{ℕ, _≤_}

@@ -1,8 +1,9 @@
--- All that is proved of the parser, in one place: each field is a theorem, and `proofs/Proved.antt` gives them all. The contract of `ac3::parse` says that
--- its answer and the room at exit are `answerTo` of the call, so each of them is about what a caller gets.
+-- All that is proved of the parser, in one place: each field is a theorem, and `proofs/Proved.antt` gives them all. The contract of
+-- `ac3::parse` says that its answer and the room at exit are `answerTo` of the call, so each of them is about what a caller gets.
 --
--- A call is a capture, a place in it and the room that is lent. Its input is the capture from the place on. `answerTo c` is the answer (a refusal's number or
--- 0, the rows written, the bit reached, a summary) and the room after it. `listed c` is the definition's own list of rows.
+-- A call is a capture, a place in it and the room that is lent. Its input is the capture from the place on. `answerTo c` is the answer (a
+-- refusal's number or 0, the rows written, the bit reached, a summary) and the room after it. `listed c` is the definition's own list of
+-- rows.
 use Rattle.syntax.specs.Demand3.{Demand3}
 use Rattle.syntax.specs.Later.{OnlyWhatWasRead}
 use Rattle.syntax.specs.Rows.{Tiles}
@@ -23,8 +24,9 @@ use Rattle.ac3.specs.Within.{KeptWithin}
 pub record Proved : Type 1 where
   -- ---- what an answer is
 
-  -- Demands 1 and 2. Every call, whatever its bytes, place and room, is answered: accepted or one of twenty refusals, accepted exactly when the definition
-  -- reaches the end of the audio within frame and room; the rows are the definition's, in front of the room, and no other number of it is touched.
+  -- Demands 1 and 2. Every call, whatever its bytes, place and room, is answered: accepted or one of twenty refusals, accepted exactly when
+  -- the definition reaches the end of the audio within frame and room; the rows are the definition's, in front of the room, and no other
+  -- number of it is touched.
   pub promised : (c : Call) → Promised c (answerTo c .0) (answerTo c .1)
   -- What follows for everyone who keeps that promise: no more rows than there is room for, no bit past the frame, no frame past the input.
   pub within : KeptWithin
@@ -34,8 +36,8 @@ pub record Proved : Type 1 where
 
   -- They cover every bit before the end of the audio, each once: they lie end to end.
   pub cover : (c : Call) → Accepted c → Tiles 0 (listed c) (bitOf c)
-  -- Demand 3, of the definition's rows: the values decide names, positions, widths and all bits outside spans; no frame's values or bits are the beginning
-  -- of another's; bits inside spans and after the audio change nothing.
+  -- Demand 3, of the definition's rows: the values decide names, positions, widths and all bits outside spans; no frame's values or bits
+  -- are the beginning of another's; bits inside spans and after the audio change nothing.
   pub demand3 : Demand3OfAnswers
   -- Demand 3 again, over nothing but the numbers that the caller holds.
   pub demand3-held : Demand3OfRooms
@@ -62,7 +64,8 @@ pub record Proved : Type 1 where
   pub more-room : MoreRoom
   -- ---- that all this says something
 
-  -- Who keeps the promise does not refuse all input, give a fixed list, repeat block 0 for the others, write nothing, or make the row count up.
+  -- Who keeps the promise does not refuse all input, give a fixed list, repeat block 0 for the others, write nothing, or make the row count
+  -- up.
   pub none-useless : NoneUseless
   -- The values on each side, (a) to (j), of docs/FORMAT.md.
   pub values : ValuesOnEachSide

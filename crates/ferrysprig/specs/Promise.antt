@@ -1,4 +1,5 @@
--- What the parser promises (`ac3/specs/Promise` and `Within`), for a caller who holds only the 24 numbers and the room: each line again, over these.
+-- What the parser promises (`ac3/specs/Promise` and `Within`), for a caller who holds only the 24 numbers and the room: each line again,
+-- over these.
 use mathlib.Core.List.{List, _++_}
 use mathlib.Core.Path.{_≡_}
 use Prim.Native.Nat.{ℕ, _*_, _≤_}

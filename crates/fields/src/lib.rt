@@ -167,8 +167,8 @@ pub fn offer(rows: &[i32], count: usize, fields: &mut [Field]) -> usize
     n
 }
 
-// The frame that starts at a place of a capture: its rows are offered over the run. A run of n records is room for n rows. (More rows than a frame can
-// have are never written, so there is no need to keep more.)
+// The frame that starts at a place of a capture: its rows are offered over the run. A run of n records is room for n rows. (More rows than
+// a frame can have are never written, so there is no need to keep more.)
 pub fn parse_fields(capture: &[u8], place: usize, fields: &mut [Field]) -> Answer
     ensures { λ r. ⌜ (r, now (fields .exit)) ≡ parsed (now (capture .entry)) place (now (fields .entry)) ⌝ }
 {

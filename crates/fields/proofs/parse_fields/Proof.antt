@@ -1,5 +1,6 @@
--- `fields::parse_fields` meets its contract: a walk of its MIR, by hand. An array in a local is lent to `parse_within` for a lifetime that is made here, and then, shared, to
--- `offer`, to which the run is given up for good; what the two leave is what the contract says (`Parsed.antt`). Assumes nothing.
+-- `fields::parse_fields` meets its contract: a walk of its MIR, by hand. An array in a local is lent to `parse_within` for a lifetime that
+-- is made here, and then, shared, to `offer`, to which the run is given up for good; what the two leave is what the contract says
+-- (`Parsed.antt`). Assumes nothing.
 use mathlib.Core.Path.{_≡_, refl, sym, _∙_, ap, subst}
 use Prim.Native.Nat.{ℕ, _<_, _*_, _^_, _/_, min}
 use mathlib.Core.List.{[], _∷_, List}

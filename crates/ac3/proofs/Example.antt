@@ -1,5 +1,5 @@
--- The example of docs/FORMAT.md, 0B 77 00 00 C0 00, by computation: as a list of rows, and in place, at byte 1 of a longer capture with a room of
--- 35 numbers, of which the last three are left over. Assumes nothing.
+-- The example of docs/FORMAT.md, 0B 77 00 00 C0 00, by computation: as a list of rows, and in place, at byte 1 of a longer capture with a
+-- room of 35 numbers, of which the last three are left over. Assumes nothing.
 use mathlib.Core.List.{List, [], _∷_, _++_}
 use mathlib.Core.Path.{_≡_, refl}
 use Prim.Native.Nat.{ℕ}

@@ -7,7 +7,10 @@ pub mod Within
 pub mod Editing
 pub mod Promise
 pub mod Rooms
+pub mod MoreRoom
 pub mod Useless
+pub mod Coordinates
+pub mod OneAnswer
 pub mod Example
 pub mod Tried
 pub mod Sent
@@ -15,3 +18,4 @@ pub mod Start
 pub mod Told
 pub mod Apart
 pub mod Later
+pub mod Proved

@@ -1,5 +1,5 @@
--- Header and blocks apart: the header by itself, and the six blocks for one who holds a header answer. `proofs/Apart.antt` proves that the whole parse is
--- both in turn, and that exactly the header's own answer is taken.
+-- Header and blocks apart: the header by itself, and the six blocks for one who holds a header answer. `proofs/Apart.antt` proves that the
+-- whole parse is both in turn, and that exactly the header's own answer is taken.
 use mathlib.Core.Bool.{Bool, false, _&&_, not, cond}
 use mathlib.Core.List.{List}
 use mathlib.Core.Path.{_≡_}
@@ -10,7 +10,7 @@ use Rattle.syntax.specs.Place.{Outcome, got, no, exec, andThen, fresh}
 use Rattle.header.specs.Header.{header}
 use Rattle.header.specs.declared.Header.{Header}
 use Rattle.ac3.specs.Frame.{audio, noSummary, answered}
-use Rattle.ac3.specs.Promise.{Call, input, answerTo}
+use Rattle.ac3.specs.Promise.{Call, input, withRoom, answerTo}
 use Rattle.ac3.specs.declared.Answer.{Answer}
 
 -- refusal 0: the header was read to its end, and the bit is the first one after it
@@ -47,7 +47,8 @@ sameAnswer a b = eqb (a .refusal) (b .refusal) && eqb (a .rows) (b .rows) && eqb
 abbrev pub unfit : Answer
 unfit = record { refusal = 24; rows = 0; bit = 0; summary = noSummary }
 
--- The header is read again. A claim that is a refusal, or another answer than that, is 24, and the room is as it was; else the blocks follow.
+-- The header is read again. A claim that is a refusal, or another answer than that, is 24, and the room is as it was; else the blocks
+-- follow.
 unfoldable pub blocksTo : Call → (claim : HeaderAnswer) → Answer × List ℤ
 blocksTo c claim =
     cond (eqb (claim .refusal) 0 && sameAnswer claim (headerTo c .0))
@@ -55,9 +56,6 @@ blocksTo c claim =
     (unfit, c .room)
 
 -- ---- both in turn
-
-abbrev pub withRoom : List ℤ → Call → Call
-withRoom room c = record { capture = c .capture; place = c .place; room = room }
 
 abbrev pub endedAt : HeaderAnswer → Answer
 endedAt h = record { refusal = h .refusal; rows = h .rows; bit = h .bit; summary = noSummary }

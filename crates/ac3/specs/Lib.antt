@@ -7,8 +7,13 @@ pub mod Promise
 pub mod Rooms
 pub mod Useless
 pub mod RowBound
+pub mod MoreRoom
 pub mod Within
+pub mod Coordinates
+pub mod OneAnswer
+pub mod Editing
 pub mod Apart
 pub mod Later
 pub mod Sound
 pub mod Listing
+pub mod Proved

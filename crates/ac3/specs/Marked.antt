@@ -1,5 +1,6 @@
--- What can be said of a grammar by looking through it: exactly the editable names are read as values that steer nothing,
--- exactly the spans as spans, by name and by role, and every refusal has one of the twenty numbers.
+-- No part of the definition: what can be said of a grammar by looking through it, and words for it that statements use. Exactly the
+-- editable names are read as values that steer nothing, exactly the spans as spans, by name and by role, and every refusal has one of the
+-- twenty numbers.
 use mathlib.Core.Bool.{Bool, true, false, not, _&&_, _||_}
 use mathlib.Core.List.{List, [], _∷_}
 use Prim.Native.Nat.{ℕ}
@@ -8,7 +9,6 @@ use Rattle.syntax.specs.declared.Item.{Item}
 use Rattle.syntax.specs.declared.Role.{Role}
 use Rattle.syntax.specs.Grammar.{Grammar, done, refuse, field, free, span, walk, frame, here}
 use Rattle.syntax.specs.Run.{Kind, steering, unsteering, spanning, Row, number, Check, clear, stop, End, reached, refused}
-use Rattle.syntax.specs.Rows.{Holds}
 use Rattle.syntax.specs.Names.{editable, spans}
 use Rattle.syntax.specs.Numbers.{roleNumbers}
 
@@ -61,8 +61,3 @@ pub data Marked {A : Type 0} : Grammar A → Type 0 where
   m-walk : {i : Item} {ws : List ℕ} {k : Grammar A} → T (kindFits spanning (i .name)) → T (roleFits spanning (i .role)) → Marked k → Marked (walk i ws k)
   m-frame : {x n : ℕ} {k : Grammar A} → T (numberFits x) → Marked k → Marked (frame x n k)
   m-here : {k : ℕ → Grammar A} → ((at : ℕ) → Marked (k at)) → Marked (here k)
-
--- bit p lies in no row of an editable name, and in no span
-abbrev pub OutsideEditable : List Row → ℕ → Type 0
-OutsideEditable [] p = Unit {0}
-OutsideEditable (r ∷ rs) p = (T (among (r .item .name) editable || among (r .item .name) spans) → ¬ Holds r p) × OutsideEditable rs p

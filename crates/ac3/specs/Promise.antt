@@ -9,7 +9,7 @@ use Rattle.bits.specs.Bits.{bitsBefore}
 use Rattle.syntax.specs.Place.{flatten}
 use Rattle.syntax.specs.Demand3.{Alike}
 use Rattle.syntax.specs.Rows.{isSpan, values, Tiles, Agree, ProperBeginning}
-use Rattle.syntax.specs.Run.{Row, Accepts, rowsOf, endOf}
+use Rattle.syntax.specs.Run.{Row, Accepts, refused, parse, rowsOf, endOf}
 use Rattle.ac3.specs.Frame.{syncframe, summaryOf, noSummary, answer}
 use Rattle.ac3.specs.declared.Answer.{Answer}
 
@@ -18,6 +18,13 @@ pub record Call : Type 0 where
   pub capture : List ℕ
   pub place : ℕ
   pub room : List ℤ
+
+abbrev pub call : (capture : List ℕ) (place : ℕ) (room : List ℤ) → Call
+call capture place room = record { capture = capture; place = place; room = room }
+
+-- the same call with another room
+abbrev pub withRoom : List ℤ → Call → Call
+withRoom room c = record { capture = c .capture; place = c .place; room = room }
 
 -- the part of the capture that starts at the place, and the rows that there is room for
 abbrev pub input : Call → List ℕ
@@ -43,6 +50,8 @@ pub record Promised (c : Call) (a : Answer) (after : List ℤ) : Type 0 where
   -- accepted exactly when the definition reaches audio_end within frame and room
   pub sound : a .refusal ≡ 0 → Reaches c
   pub complete : Reaches c → a .refusal ≡ 0
+  -- and else refused with the number that the definition gives
+  pub which : (n : ℕ) → parse syncframe (input c) (roomFor c) .end ≡ refused n → a .refusal ≡ n
   -- the rows are the definition's list, in front, and the rest of the room is as it was
   pub written : after ≡ flatten (listed c) ++ drop (length (listed c) * 8) (c .room)
   -- the row count is that list's length, and the bit is the first one not yet read

@@ -13,6 +13,12 @@ use syntax::START;
 ghost use mathlib.Core.Path.{_≡_};
 ghost use Rattle.syntax.specs.Place.{exec, fresh};
 ghost use Rattle.ac3.specs.Frame as grammar;
+ghost use Rattle.ac3.specs.Promise.{call, Promised};
+ghost use Rattle.ac3.specs.Within.{Within};
+
+// No frame has more rows: so many occur with five channels and LFE, two of the channels coupled from the lowest sub-band on, all sent anew
+// in every block, and eight delta segments for each (`mostRows`, specs/RowBound). With room for these no frame is refused for want of room.
+pub const MOST_ROWS: usize = 4067;
 
 // All that a block leaves to the next one, besides the exponents.
 pub struct State {
@@ -109,6 +115,8 @@ fn syncframe(s: &[u8], rows: &mut [i32]) -> Answer
 // too short.
 pub fn parse(capture: &[u8], place: usize, rows: &mut [i32]) -> Answer
     ensures { λ r. ⌜ (r, now (rows .exit)) ≡ grammar.answer (now (capture .entry)) place (now (rows .entry)) ⌝ }
+    ensures { λ r. ⌜ Promised (call (now (capture .entry)) place (now (rows .entry))) r (now (rows .exit)) ⌝ }
+    ensures { λ r. ⌜ Within (call (now (capture .entry)) place (now (rows .entry))) r (now (rows .exit)) ⌝ }
 {
     if capture.len() < place {
         return refused(Cursor {

@@ -1,15 +1,11 @@
 -- An answer as 24 numbers: the refusal, the rows written, the bit, and the summary's 21 in the order of docs/FORMAT.md. Yes is 1.
 use mathlib.Core.Bool.{Bool, cond}
 use mathlib.Core.List.{List, [], _∷_, _++_, map}
-use Prim.Native.Nat.{ℕ, min}
+use Prim.Native.Nat.{ℕ}
 use lib.IntN.{ℤ, pos}
 use lib.ListN.{getD}
 use Rattle.ac3.specs.declared.Answer.{Answer}
 use Rattle.ac3.specs.declared.Summary.{Summary}
-
--- A count as 32 bits hold it. (No frame has so many rows that it would be cut.)
-abbrev pub held : ℕ → ℤ
-held n = pos (min n 2147483647)
 
 abbrev pub flag : Bool → ℤ
 flag b = cond b (pos 1) (pos 0)
@@ -20,11 +16,11 @@ six l = map (λ i. pos (getD l i 0)) (0 ∷ 1 ∷ 2 ∷ 3 ∷ 4 ∷ 5 ∷ [])
 
 unfoldable pub summaryNumbers : Summary → List ℤ
 summaryNumbers s =
-    held (s .rows) ∷ pos (s .header .bytes) ∷ pos (s .end) ∷ pos (s .header .bsid) ∷ pos (s .header .acmod) ∷ flag (s .header .lfeon)
+    pos (s .rows) ∷ pos (s .header .bytes) ∷ pos (s .end) ∷ pos (s .header .bsid) ∷ pos (s .header .acmod) ∷ flag (s .header .lfeon)
     ∷ pos (s .header .fscod) ∷ pos (s .tally .coupled) ∷ six (s .tally .starts) ++ six (s .tally .mantissas) ++ flag (s .tally .coordinates) ∷ []
 
 unfoldable pub answerNumbers : Answer → List ℤ
-answerNumbers a = pos (a .refusal) ∷ held (a .rows) ∷ pos (a .bit) ∷ summaryNumbers (a .summary)
+answerNumbers a = pos (a .refusal) ∷ pos (a .rows) ∷ pos (a .bit) ∷ summaryNumbers (a .summary)
 
 -- the numbers of an answer, and the room after it
 abbrev pub told : Answer × List ℤ → List ℤ × List ℤ

@@ -1,18 +1,21 @@
 // The functions that Rust and C call. An exported function can take no enum and nothing that leads to one, so answers go as numbers.
 use ac3::Answer;
 ghost use mathlib.Core.Path.{_≡_};
-ghost use Prim.Native.Nat.{ℕ, _<_, _≤_, min};
+ghost use Prim.Native.Nat.{_≤_};
 ghost use lib.IntN.{pos};
-ghost use lib.ListN.{length};
 ghost use Rattle.bits.specs.Bits.{rangeEq};
 ghost use Rattle.ac3.specs.Frame as frame;
-ghost use Rattle.ferrysprig.specs.Numbers.{held, flag, answerNumbers, told};
+ghost use Rattle.ac3.specs.Promise.{call};
+ghost use Rattle.ac3.specs.RowBound.{mostRows};
+ghost use Rattle.ferrysprig.specs.Numbers.{flag, answerNumbers, told};
+ghost use Rattle.ferrysprig.specs.Promise.{PromisedNumbers};
 
-// A count as 32 bits hold it.
-fn held(n: usize) -> i32
-    ensures { λ r. ⌜ r ≡ held n ⌝ }
+// No frame has so many rows that 32 bits would not hold their count.
+fn row_count(n: usize) -> i32
+    requires { ⌜ n ≤ mostRows ⌝ }
+    ensures { λ r. ⌜ r ≡ pos n ⌝ }
 {
-    if n < 2147483647 { n as i32 } else { 2147483647 }
+    n as i32
 }
 
 fn wide(n: u16) -> i32
@@ -29,6 +32,7 @@ fn flag(b: bool) -> i32
 
 // The 24 numbers of an answer.
 fn numbers(a: Answer) -> [i32; 24]
+    requires { ⌜ (a .rows ≤ mostRows) × (a .summary .rows ≤ mostRows) ⌝ }
     ensures { λ r. ⌜ r ≡ answerNumbers a ⌝ }
 {
     let summary = a.summary;
@@ -38,9 +42,9 @@ fn numbers(a: Answer) -> [i32; 24]
     let mantissas = tally.mantissas;
     [
         wide(a.refusal as u16),
-        held(a.rows),
+        row_count(a.rows),
         wide(a.bit),
-        held(summary.rows),
+        row_count(summary.rows),
         wide(header.bytes),
         wide(summary.end),
         wide(header.bsid as u16),
@@ -73,6 +77,7 @@ pub extern "C" fn ferrysprig_parse(
     answer: &mut [i32; 24],
 )
     ensures { λ _. ⌜ (now (answer .exit), now (rows .exit)) ≡ told (frame.answer (now (capture .entry)) place (now (rows .entry))) ⌝ }
+    ensures { λ _. ⌜ PromisedNumbers (call (now (capture .entry)) place (now (rows .entry))) (now (answer .exit)) (now (rows .exit)) ⌝ }
 {
     *answer = numbers(ac3::parse(capture, place, rows));
 }

@@ -9,7 +9,7 @@ use Rattle.syntax.specs.Run.{Row}
 use Rattle.syntax.specs.declared.Role.{Role}
 use Rattle.syntax.specs.declared.Role.the-variants.{Plain, Sync, Crc1, Crc2, CrcRsv, FrameSize, Dialnorm, ComprExists, Compr, DynrngExists, Dynrng, Skiple, Skipl, Skipfld, Addbsi, Mantissas, AuxBits, AuxDataL, AuxDataE, BlkStrtInfoE, BlkStrtInfo}
 use Rattle.ac3.specs.Frame.{answer}
-use Rattle.ac3.specs.Promise.{Call, listed, answerTo}
+use Rattle.ac3.specs.Promise.{Call, call, listed, answerTo}
 use Rattle.ac3.specs.declared.Answer.{Answer}
 use Rattle.fields.specs.declared.Field.{Field}
 
@@ -89,13 +89,9 @@ answerWithin n capture place room =
     let told = answer capture place (take (n * 8) room) in
     (told .0, told .1 ++ drop (n * 8) room)
 
--- the most rows that are recorded, whatever room is lent
-abbrev pub capacity : ℕ
-capacity = 4096
-
--- the call that a run of this many records is lent for: room for as many rows, up to the capacity
+-- the call that a run of this many records is lent for: room for as many rows
 abbrev pub callFor : (capture : List ℕ) (place records : ℕ) → Call
-callFor capture place records = record { capture = capture; place = place; room = replicate (min records capacity * 8) (pos 0) }
+callFor capture place records = call capture place (replicate (records * 8) (pos 0))
 
 -- the answer is that of the call, and the records are those of the definition's list, in front; the rest of the run is as it was
 abbrev pub parsed : (capture : List ℕ) (place : ℕ) (run : List Field) → Answer × List Field

@@ -2,13 +2,18 @@
 // numbers. Functions with a run of records are proved by hand and are thin; the work on numbers is in functions that take and return a
 // record by value.
 use ac3::Answer;
+use ac3::MOST_ROWS;
 use syntax::NONE;
 use syntax::Role;
 ghost use mathlib.Core.Path.{_≡_};
 ghost use Prim.Native.Nat.{_≤_, _+_, _*_, min, _/_};
 ghost use lib.ListN.{length, replicate};
 ghost use lib.IntN.{pos};
+ghost use Rattle.ac3.specs.RowBound.{mostRows};
 ghost use Rattle.fields.specs.Fields.{programmeOf, roleOf, fieldOf, rowOf, fieldAt, filled, fitting, offered, answerWithin, parsed};
+
+// The numbers of the most rows that a frame can have.
+const NUMBERS: usize = MOST_ROWS * 8;
 
 // -1 stands for "none" in block and index.
 pub struct Field {
@@ -124,11 +129,11 @@ fn fitting(numbers: usize, count: usize, room: usize) -> usize
     signed::least(signed::least(count, numbers / 8), room)
 }
 
-// Room for 4,096 rows. (Whoever calls it knows the array by what it ensures, and need not compute with it.)
-fn no_rows() -> [i32; 32768]
-    ensures { λ r. ⌜ r ≡ replicate 32768 (pos 0) ⌝ }
+// Room for as many rows as a frame can have. (Whoever calls it knows the array by what it ensures, and need not compute with it.)
+fn no_rows() -> [i32; NUMBERS]
+    ensures { λ r. ⌜ r ≡ replicate (mostRows * 8) (pos 0) ⌝ }
 {
-    [0i32; 32768]
+    [0i32; NUMBERS]
 }
 
 // The frame that starts at a place of a capture, with room for at most n rows of those that are lent.
@@ -162,8 +167,8 @@ pub fn offer(rows: &[i32], count: usize, fields: &mut [Field]) -> usize
     n
 }
 
-// The frame that starts at a place of a capture: its rows are offered over the run. A run of n records counts as room for n rows, up to
-// 4,096.
+// The frame that starts at a place of a capture: its rows are offered over the run. A run of n records is room for n rows. (More rows than
+// a frame can have are never written, so there is no need to keep more.)
 pub fn parse_fields(capture: &[u8], place: usize, fields: &mut [Field]) -> Answer
     ensures { λ r. ⌜ (r, now (fields .exit)) ≡ parsed (now (capture .entry)) place (now (fields .entry)) ⌝ }
 {

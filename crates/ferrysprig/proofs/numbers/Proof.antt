@@ -42,9 +42,9 @@ entries c =
     let t24 = t23 .before in
     λ i.
     (back {z = t24 .wide .result} (search needs) (t24 .wide .ensures)) i
-    ∷ (back {z = t23 .held .result} (search needs) (t23 .held .ensures)) i
+    ∷ (back {z = t23 .row-count .result} (search needs) (t23 .row-count .ensures)) i
     ∷ (back {z = t22 .wide2 .result} (search needs) (t22 .wide2 .ensures)) i
-    ∷ (back {z = t21 .held2 .result} (search needs) (t21 .held2 .ensures)) i
+    ∷ (back {z = t21 .row-count2 .result} (search needs) (t21 .row-count2 .ensures)) i
     ∷ (back {z = t20 .wide3 .result} (search needs) (t20 .wide3 .ensures)) i
     ∷ (back {z = t19 .wide4 .result} (search needs) (t19 .wide4 .ensures)) i
     ∷ (back {z = t18 .wide5 .result} (search needs) (t18 .wide5 .ensures)) i
@@ -73,9 +73,9 @@ numbers-spec =
     (tie.spec
     (λ c. search needs)  -- cast-wide
     (λ c κs. search needs)  -- wide-requires
-    (λ c κs. search needs)  -- held-requires
+    (λ c κs. search needs)  -- row-count-requires
     (λ c κs. search needs)  -- wide-requires-2
-    (λ c κs. search needs)  -- held-requires-2
+    (λ c κs. search needs)  -- row-count-requires-2
     (λ c κs. search needs)  -- wide-requires-3
     (λ c κs. search needs)  -- wide-requires-4
     (λ c. search needs)  -- cast-wide-2

@@ -1,7 +1,8 @@
--- `fields::parse_fields` meets its contract: a walk of its MIR, by hand. An array in a local is lent to `parse_within` for a lifetime that is made here, and then, shared, to
--- `offer`, to which the run is given up for good; what the two leave is what the contract says (`Parsed.antt`). Assumes nothing.
+-- `fields::parse_fields` meets its contract: a walk of its MIR, by hand. An array in a local is lent to `parse_within` for a lifetime that
+-- is made here, and then, shared, to `offer`, to which the run is given up for good; what the two leave is what the contract says
+-- (`Parsed.antt`). Assumes nothing.
 use mathlib.Core.Path.{_≡_, refl, sym, _∙_, ap, subst}
-use Prim.Native.Nat.{ℕ, _<_, _^_, _/_, min}
+use Prim.Native.Nat.{ℕ, _<_, _*_, _^_, _/_, min}
 use mathlib.Core.List.{[], _∷_, List}
 use lib.Dec.{T, lit<}
 use lib.IntN.{ℤ, pos}
@@ -47,6 +48,7 @@ use denote.Triple.Spec.{Meets, tripleOf}
 use denote.Triple.Table.{entered, cited}
 use denote.Triple.Walked.{says, Stays, gave-slice, stay-none, stay-none-slice, walkOf, goes-gave-slice, goes-none, goes-none-slice, Walks, ends-at, walked, walk-meets}
 use denote.Exit.{yes}
+use Rattle.ac3.specs.RowBound.{mostRows}
 use Rattle.ac3.specs.declared.Answer.{Answer}
 use Rattle.ac3.proofs.Answer as Ans
 use Rattle.ac3.proofs.Answer.Laws as Ans′
@@ -87,7 +89,7 @@ tells = LL.tells Ans.the-type Ans′.the-laws
 
 -- the local's numbers: how many, and that they have room
 abbrev N : ℕ
-N = 32768
+N = mostRows * 8
 
 abbrev Zeros : List ℤ → Type 0
 Zeros xs = xs ≡ replicate N (pos 0)

@@ -29,4 +29,4 @@ parse-within-spec =
     (λ c. search needs)  -- same-length
     (λ c.
     let a = c .before .before .before .before .before .args in
-    joined (a .rows .now) (a .capture .now) (a .place) (c .before .before .before .least .ensures) (c .before .parse .ensures)))  -- returns
+    joined (a .rows .now) (a .capture .now) (a .place) (c .before .before .before .least .ensures) (c .before .parse .ensures .0)))  -- returns

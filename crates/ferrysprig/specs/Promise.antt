@@ -1,0 +1,53 @@
+-- What the parser promises (`ac3/specs/Promise` and `Within`), for a caller who holds only the 24 numbers and the room: each line again,
+-- over these.
+use mathlib.Core.List.{List, _++_}
+use mathlib.Core.Path.{_≡_}
+use Prim.Native.Nat.{ℕ, _*_, _≤_}
+use lib.IntN.{ℤ, pos}
+use lib.ListN.{length, getD, drop}
+use Rattle.syntax.specs.Place.{flatten}
+use Rattle.syntax.specs.Rows.{Tiles}
+use Rattle.syntax.specs.Run.{refused, parse}
+use Rattle.ac3.specs.Frame.{syncframe, summaryOf, noSummary}
+use Rattle.ac3.specs.Promise.{Call, input, roomFor, listed, bitOf, Reaches}
+use Rattle.ac3.specs.RowBound.{mostRows}
+use Rattle.ferrysprig.specs.Numbers.{summaryNumbers}
+
+-- of the numbers: the refusal, the rows written, the bit, and the frame's bytes
+abbrev pub refusalIn : List ℤ → ℤ
+refusalIn ns = getD ns 0 (pos 0)
+
+abbrev pub rowsIn : List ℤ → ℤ
+rowsIn ns = getD ns 1 (pos 0)
+
+abbrev pub bitIn : List ℤ → ℤ
+bitIn ns = getD ns 2 (pos 0)
+
+abbrev pub bytesIn : List ℤ → ℤ
+bytesIn ns = getD ns 4 (pos 0)
+
+pub record PromisedNumbers (c : Call) (ns after : List ℤ) : Type 0 where
+  pub long : length ns ≡ 24
+  -- accepted, or one of twenty refusals
+  pub numbered : (n : ℕ) × (refusalIn ns ≡ pos n) × (n ≤ 20)
+  -- accepted exactly when the definition reaches audio_end within frame and room, and else refused with its number
+  pub sound : refusalIn ns ≡ pos 0 → Reaches c
+  pub complete : Reaches c → refusalIn ns ≡ pos 0
+  pub which : (n : ℕ) → parse syncframe (input c) (roomFor c) .end ≡ refused n → refusalIn ns ≡ pos n
+  -- the rows are the definition's list, in front, and the rest of the room is as it was
+  pub written : after ≡ flatten (listed c) ++ drop (length (listed c) * 8) (c .room)
+  pub counted : rowsIn ns ≡ pos (length (listed c))
+  pub bit : bitIn ns ≡ pos (bitOf c)
+  -- the rows of an accepted frame lie end to end from bit 0 to the bit
+  pub tiles : refusalIn ns ≡ pos 0 → Tiles 0 (listed c) (bitOf c)
+  -- the other 21 numbers are the definition's summary, or all zeros
+  pub summary : (ok : Reaches c) → drop 3 ns ≡ summaryNumbers (summaryOf (length (listed c)) (ok .answer))
+  pub no-summary : ¬ (refusalIn ns ≡ pos 0) → drop 3 ns ≡ summaryNumbers noSummary
+  -- no more rows than there is room for, nor than any frame has; and with room for these the room is never full
+  pub fits : length (listed c) ≤ roomFor c
+  pub few : length (listed c) ≤ mostRows
+  pub never-full : mostRows ≤ roomFor c → ¬ (refusalIn ns ≡ pos 7)
+  pub room : length after ≡ length (c .room)
+  -- what is accepted ends within its frame, and the frame within the input
+  pub end : (bytes : ℕ) → bytesIn ns ≡ pos bytes → refusalIn ns ≡ pos 0 → bitOf c ≤ 8 * bytes
+  pub frame : (bytes : ℕ) → bytesIn ns ≡ pos bytes → refusalIn ns ≡ pos 0 → 8 * bytes ≤ 8 * length (input c)

@@ -2,8 +2,7 @@
 use mathlib.Core.Path.{_≡_, refl}
 use lib.IntN.{ℤ, pos, negsuc}
 use Rattle.tables.specs.Tables.{bandEnd, logAdd}
-use Rattle.alloc.specs.Alloc.{logadd, lowcomp, snrOffset, bandOf, kept, addressOf}
-use Rattle.alloc.specs.Delta.{deltaOf}
+use Rattle.alloc.specs.Allocation.{logadd, lowcomp, snrOffset, bandOf, kept, addressOf, deltaOf}
 
 -- (e) the bands of bins
 pub bands : (bandOf 27 ≡ 27) × (bandOf 28 ≡ 28) × (bandOf 30 ≡ 28) × (bandOf 31 ≡ 29) × (bandOf 252 ≡ 49)

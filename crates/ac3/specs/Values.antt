@@ -7,8 +7,7 @@ use lib.IntN.{ℤ, pos, negsuc, _+ℤ_}
 use lib.ListN.{replicate}
 use Rattle.bits.specs.Bits.{value}
 use Rattle.tables.specs.Tables.{frameBytes}
-use Rattle.alloc.specs.Alloc.{logadd, snrOffset, bandOf}
-use Rattle.alloc.specs.Delta.{deltaOf}
+use Rattle.alloc.specs.Allocation.{logadd, snrOffset, bandOf, deltaOf}
 use Rattle.syntax.specs.Grammar.{_>>=_, _>>_, plain, framed}
 use Rattle.syntax.specs.Run.{sum, End, reached, refused, parse}
 use Rattle.blocks.specs.Slots.{subBands, firstCoupled, pastCoupled, pastChannel}

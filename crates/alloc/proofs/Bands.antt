@@ -1,6 +1,6 @@
 -- The bands: their ends rise, and a bin's band is the one whose end is the first above it. Assumes nothing.
 use mathlib.Core.Path.{_≡_, _∙_, refl, ap, sym}
-use mathlib.Core.Bool.{Bool, true}
+use mathlib.Core.Bool.{Bool, true, cond, _&&_}
 use mathlib.Core.List.{List, [], _∷_}
 use Prim.Native.Nat.{ℕ, zero, suc, _+_, _-_, _≤_, _<_, min, max, suc-le-suc}
 use native.Mathlib.Decide.{ℕ-discrete, decLt}
@@ -11,9 +11,8 @@ use lib.Dec.{T, leb, ltb, eqb, leb→le, ltb→lt, eqb→eq}
 use lib.IntN.{ℤ}
 use lib.ListN.{length, getD}
 use borrow.Author.Tests.{lt-ltb, le-ltb}
-use Rattle.signed.specs.Level.{pick, both}
 use Rattle.tables.specs.Tables.{bandEnd}
-use Rattle.alloc.specs.Alloc.{firstAbove, bandOf, startOf, endOf, bandSum, bandLevel}
+use Rattle.alloc.specs.Allocation.{firstAbove, bandOf, startOf, endOf, bandSum, bandPsd}
 use Rattle.alloc.specs.Band.{InBand}
 use Rattle.tables.proofs.Rules.{both-left, both-right}
 
@@ -30,7 +29,7 @@ first-is (x ∷ xs) b (suc k) h low high =
 -- each entry is above the one before it; x stands before the first
 abbrev rises : ℕ → List ℕ → Bool
 rises x [] = true
-rises x (y ∷ ys) = both (ltb x y) (rises y ys)
+rises x (y ∷ ys) = ltb x y && rises y ys
 
 rises-at : (x : ℕ) (ys : List ℕ) → T (rises x ys) → (k : ℕ) → k < length ys → getD (x ∷ ys) k 0 < getD ys k 0
 rises-at x [] t k h = absurd (not-suc-le-zero h)
@@ -93,12 +92,12 @@ end-mono j k p h = rw (← start-next j, ← start-next k) (start-mono (suc j) (
 -- ---- bands of 1, 3, 6, 12 and 24 bins
 
 abbrev widthOf : ℕ → ℕ
-widthOf band = pick (ltb band 28) 1 (pick (ltb band 35) 3 (pick (ltb band 41) 6 (pick (ltb band 45) 12 24)))
+widthOf band = cond (ltb band 28) 1 (cond (ltb band 35) 3 (cond (ltb band 41) 6 (cond (ltb band 45) 12 24)))
 
 -- each band, counted from i, is as wide as that; x is where the first one starts
 abbrev regular : ℕ → ℕ → List ℕ → Bool
 regular i x [] = true
-regular i x (y ∷ ys) = both (eqb y (x + widthOf i)) (regular (suc i) y ys)
+regular i x (y ∷ ys) = eqb y (x + widthOf i) && regular (suc i) y ys
 
 regular-at : (i x : ℕ) (ys : List ℕ) → T (regular i x ys) → (k : ℕ) → k < length ys → getD ys k 0 ≡ getD (x ∷ ys) k 0 + widthOf (i + k)
 regular-at i x [] t k h = absurd (not-suc-le-zero h)
@@ -140,11 +139,11 @@ in-order a b j k p q h = by (decLt k j)
 
 -- every bin has its band, by one computed test
 abbrev contained : ℕ → Bool
-contained bin = both (ltb (bandOf bin) 50) (both (leb (startOf (bandOf bin)) bin) (ltb bin (endOf (bandOf bin))))
+contained bin = ltb (bandOf bin) 50 && (leb (startOf (bandOf bin)) bin && ltb bin (endOf (bandOf bin)))
 
 abbrev all-contained : ℕ → Bool
 all-contained zero = true
-all-contained (suc n) = both (contained n) (all-contained n)
+all-contained (suc n) = contained n && all-contained n
 
 contained-at : (n : ℕ) → T (all-contained n) → (bin : ℕ) → bin < n → T (contained bin)
 contained-at zero t bin h = absurd (not-suc-le-zero h)
@@ -161,10 +160,10 @@ test = tt
 pub band-of : (bin : ℕ) → bin < 253 → InBand bin (bandOf bin)
 band-of bin h =
     let t = contained-at 253 test bin h in
-    let rest = both-right (ltb (bandOf bin) 50) (both (leb (startOf (bandOf bin)) bin) (ltb bin (endOf (bandOf bin)))) t in
+    let rest = both-right (ltb (bandOf bin) 50) (leb (startOf (bandOf bin)) bin && ltb bin (endOf (bandOf bin))) t in
     record {
       is = refl;
-      small = ltb→lt (bandOf bin) 50 (both-left (ltb (bandOf bin) 50) (both (leb (startOf (bandOf bin)) bin) (ltb bin (endOf (bandOf bin)))) t);
+      small = ltb→lt (bandOf bin) 50 (both-left (ltb (bandOf bin) 50) (leb (startOf (bandOf bin)) bin && ltb bin (endOf (bandOf bin))) t);
       low = leb→le (startOf (bandOf bin)) bin (both-left (leb (startOf (bandOf bin)) bin) (ltb bin (endOf (bandOf bin))) rest);
       high = ltb→lt bin (endOf (bandOf bin)) (both-right (leb (startOf (bandOf bin)) bin) (ltb bin (endOf (bandOf bin))) rest);
     }
@@ -172,8 +171,8 @@ band-of bin h =
 -- ---- levels of bands
 
 -- a band of one bin has that bin's level
-pub narrow-level : (level : ℕ → ℤ) (start end band : ℕ) → band < 28 → start ≤ band → band < end → level band ≡ bandLevel level start end band
-unfolding bandLevel bandSum
+pub narrow-level : (level : ℕ → ℤ) (start end band : ℕ) → band < 28 → start ≤ band → band < end → level band ≡ bandPsd level start end band
+unfolding bandPsd bandSum
 narrow-level level start end band h p q =
     let n = narrow band h in
     let first : max start (startOf band) ≡ band = omega arith in

@@ -1,6 +1,6 @@
 -- How far the definition's levels are from 0: bounds on the definition, which the loops' steps cite. Assumes nothing.
 use mathlib.Core.Path.{_≡_, refl}
-use mathlib.Core.Bool.{not}
+use mathlib.Core.Bool.{not, _&&_}
 use mathlib.Core.List.{List}
 use Prim.Native.Nat.{ℕ, zero, suc, _+_, _*_, _/_, _^_, _≤_, _<_, min}
 use native.Mathlib.Omega.{arith}
@@ -10,13 +10,13 @@ use lib.Dec.{T, leb, ltb, lit<, leb→le}
 use lib.IntN.{ℤ, pos, negsuc, natAbs, _+ℤ_, _-ℤ_, _*ℤ_}
 use lib.ListN.{getD}
 use lib.Signed.{mag, ltZ, _≤ℤ_}
-use Rattle.signed.specs.Level.{maxZ, eqZ, both}
-use Rattle.signed.specs.Bound.{Below, bounds, mag-add, mag-pick, below-is, below-u16, below-more, below-add, below-shr, below-128, below-lit, below-pick, below-fall}
+use Rattle.signed.specs.Level.{maxZ, eqZ}
+use Rattle.signed.specs.Bound.{Below, bounds, mag-add, mag-cond, below-is, below-u16, below-more, below-add, below-shr, below-128, below-lit, below-cond, below-fall}
 use Rattle.signed.specs.Order.{plus-mono, plus-above}
 use Rattle.tables.specs.Tables.{logAdd}
-use Rattle.alloc.specs.Steps.{Exponents, relative, relativeAt}
-use Rattle.alloc.specs.Alloc.{at, level, levelAt, logadd, lowcomp, bandSum, lfeLast, lowAfter, fallTo, overKnee, kept, threshold}
-use Rattle.alloc.specs.Delta.{deltaOf}
+use Rattle.alloc.specs.Allocation.{at, psdOf, psdAt, logadd, lowcomp, bandSum, lfeLast, lowAfter, fallTo, overKnee, kept, threshold, deltaOf}
+use Rattle.alloc.specs.Sound.{Exponents}
+use Rattle.alloc.specs.Steps.{relative, relativeAt}
 use Rattle.tables.proofs.Rule.{log-add-at-most}
 
 -- the sum is between the larger level and 64 more
@@ -30,7 +30,7 @@ logadd-close a b = plus-mono (maxZ a b) _ 64 (log-add-at-most (min (natAbs (a -�
 
 logadd-mag : (a b : ℤ) {m : ℕ} → mag a < m → mag b < m → mag (logadd a b) < m + 65
 unfolding logadd
-logadd-mag a b p q = mag-add (maxZ a b) _ (mag-pick (ltZ a b) b a q p) (omega (arith, log-add-at-most (min (natAbs (a -ℤ b) / 2) 255)))
+logadd-mag a b p q = mag-add (maxZ a b) _ (mag-cond (ltZ a b) b a q p) (omega (arith, log-add-at-most (min (natAbs (a -ℤ b) / 2) 255)))
 
 pub logadd-below : {k : ℕ} {a b : ℤ} → Below k a → Below k b → T (leb 65 (2 ^ k)) → Below (k + 1) (logadd a b)
 logadd-below {k} {a} {b} p q t =
@@ -58,8 +58,8 @@ pub relative-below : (exponents : List ℤ) → Exponents exponents → (bin : �
 unfolding relative
 relative-below exponents all bin = let e = exponent-below (at exponents bin) (all bin .0) (all bin .1) in search (bounds, below-128) depth 12
 
-pub level-below : (exponents : List ℤ) → Exponents exponents → (bin : ℕ) → Below 13 (levelAt exponents bin)
-unfolding level
+pub level-below : (exponents : List ℤ) → Exponents exponents → (bin : ℕ) → Below 13 (psdAt exponents bin)
+unfolding psdOf
 level-below exponents all bin = let e = exponent-below (at exponents bin) (all bin .0) (all bin .1) in search (bounds, below-128) depth 12
 
 pub fall-below : {k : ℕ} (leak : ℤ) (decay : ℕ) (floor : ℤ) → Below k leak → Below k floor → Below k (fallTo leak decay floor)
@@ -69,22 +69,22 @@ fall-below leak decay floor p q = below-fall decay p q
 lowcomp-below : (a b0 b1 : ℤ) (bin : ℕ) → Below 9 a → Below 9 (lowcomp a b0 b1 bin)
 unfolding lowcomp
 lowcomp-below a b0 b1 bin p =
-    below-pick (ltb bin 20)
-    (below-pick (eqZ (b0 +ℤ pos 256) b1)
-    (below-pick (ltb bin 7) (below-lit tt) (below-lit tt))
-    (below-pick (ltZ b1 b0) (below-fall 64 p (below-lit tt)) p))
+    below-cond (ltb bin 20)
+    (below-cond (eqZ (b0 +ℤ pos 256) b1)
+    (below-cond (ltb bin 7) (below-lit tt) (below-lit tt))
+    (below-cond (ltZ b1 b0) (below-fall 64 p (below-lit tt)) p))
     (below-fall 128 p (below-lit tt))
 
 pub low-below : (level : ℕ → ℤ) (bands band : ℕ) (low : ℤ) → Below 9 low → Below 9 (lowAfter level bands band low)
 unfolding lowAfter
 low-below level bands band low p =
-    below-pick (both (ltb band 22) (not (lfeLast bands band))) (lowcomp-below low (level band) (level (band + 1)) band p) p
+    below-cond (ltb band 22 && not (lfeLast bands band)) (lowcomp-below low (level band) (level (band + 1)) band p) p
 
 pub knee-below : (excite here : ℤ) (knee : ℕ) → knee < 2 ^ 16 → Below 18 excite → Below 15 here → Below 19 (overKnee excite here knee)
 unfolding overKnee
 knee-below excite here knee k p q =
     let n = below-u16 knee k in
-    below-pick (ltZ here (pos knee)) (search (bounds, below-shr) depth 12) (below-more p tt)
+    below-cond (ltZ here (pos knee)) (search (bounds, below-shr) depth 12) (below-more p tt)
 
 kept-below : (z : ℤ) → Below 13 (kept z)
 unfolding kept
@@ -98,4 +98,4 @@ pub delta-of-below : (code : ℕ) → code < 256 → Below 16 (deltaOf code)
 unfolding deltaOf
 delta-of-below code p =
     let small : Below 8 (pos code) = record { below = p } in
-    below-pick (leb 4 code) {k = 16} {a = (pos code -ℤ pos 3) *ℤ pos 128} {b = (pos code -ℤ pos 4) *ℤ pos 128} (search (bounds, below-128) depth 12) (search (bounds, below-128) depth 12)
+    below-cond (leb 4 code) {k = 16} {a = (pos code -ℤ pos 3) *ℤ pos 128} {b = (pos code -ℤ pos 4) *ℤ pos 128} (search (bounds, below-128) depth 12) (search (bounds, below-128) depth 12)

@@ -1,7 +1,7 @@
 -- A loop that fills a list from one place on: after each store the list's entries are those of the definition, one place further.
 -- Assumes nothing.
 use mathlib.Core.Path.{_≡_, refl, sym, ap, _∙_}
-use mathlib.Core.Bool.{Bool, true, false}
+use mathlib.Core.Bool.{Bool, true, false, _&&_}
 use mathlib.Core.List.{List}
 use mathlib.Core.Logic.{_≢_}
 use Prim.Native.Nat.{ℕ, zero, suc, _+_, _≤_, _<_, max}
@@ -12,11 +12,9 @@ use lib.Dec.{leb, ltb}
 use lib.ListN.{length, getD, set, replicate, length-set}
 use lib.Seq.{getD-set-same, getD-set-other}
 use borrow.Author.Tests.{le-leb, lt-leb, lt-ltb, le-ltb}
-use Rattle.signed.specs.Level.{both}
-use Rattle.alloc.specs.Alloc.{filled, within}
-use Rattle.alloc.specs.Fills.{Fills}
+use Rattle.alloc.specs.Fills.{filled, within, Fills}
 
-both-no : (b : Bool) → both b false ≡ false
+both-no : (b : Bool) → (b && false) ≡ false
 both-no true = refl
 both-no false = refl
 

@@ -1,7 +1,7 @@
 -- Sums of levels: of two, by their difference; and sums of levels that are all less by a constant are less by that constant.
 -- Assumes nothing.
 use mathlib.Core.Path.{_≡_, refl, sym, ap, ap₂, _∙_, subst}
-use mathlib.Core.Bool.{Bool, true, false, not, cond}
+use mathlib.Core.Bool.{Bool, true, false, not, cond, _&&_}
 use mathlib.Core.List.{List}
 use Prim.Native.Nat.{ℕ, zero, suc, _+_, _/_, _≤_, _<_, min, zero-le}
 use native.Mathlib.Omega.{arith}
@@ -10,11 +10,11 @@ use lib.IntN.{ℤ, pos, negsuc, sucℤ, predℤ, negℤ, natAbs, suc-pred, neg�
 use lib.ListN.{getD}
 use lib.Signed.{ltZ, leZ, nonNeg}
 use borrow.Author.Tests.{lt-ltb, le-ltb, le-leb, ltb-true, ltb-false}
-use Rattle.signed.specs.Level.{pick, both, maxZ}
+use Rattle.signed.specs.Level.{maxZ}
 use Rattle.tables.specs.Tables.{logAdd}
 use Rattle.tables.proofs.Rule.{log-add-rule}
 use Rattle.tables.proofs.Rules.{both-right}
-use Rattle.alloc.specs.Alloc.{at, logadd, level, levelAt, bandSum}
+use Rattle.alloc.specs.Allocation.{at, logadd, psdOf, psdAt, bandSum}
 use Rattle.alloc.specs.Steps.{relative, relativeAt}
 
 -- ---- the larger of two, by the sign of their difference
@@ -61,12 +61,12 @@ far a b m e h =
 
 -- ---- what the tests on a difference tell
 
-pub near-test : (z : ℤ) → both (leZ (pos 0) z) (ltZ z (pos 512)) ≡ true → T (nonNeg z) × (natAbs z < 512)
+pub near-test : (z : ℤ) → (leZ (pos 0) z && ltZ z (pos 512)) ≡ true → T (nonNeg z) × (natAbs z < 512)
 near-test (pos n) e = (tt, ltb→lt n 512 (both-right (leb 0 n) (ltb n 512) (subst T (sym e) tt)))
 near-test (negsuc n) e = absurd (subst T (sym e) tt)
 
-pub far-test : (z : ℤ) → both (leZ (pos 0) z) (ltZ z (pos 512)) ≡ false → leZ (pos 0) z ≡ true → T (nonNeg z) × (512 ≤ natAbs z)
-far-test (pos n) e h = (tt, ltb-false n 512 (sym (ap (λ (t : Bool). both t (ltb n 512)) h) ∙ e))
+pub far-test : (z : ℤ) → (leZ (pos 0) z && ltZ z (pos 512)) ≡ false → leZ (pos 0) z ≡ true → T (nonNeg z) × (512 ≤ natAbs z)
+far-test (pos n) e h = (tt, ltb-false n 512 (sym (ap (λ (t : Bool). (t && ltb n 512)) h) ∙ e))
 far-test (negsuc n) e h = absurd (subst T (sym h) tt)
 
 pub below-test : (z : ℤ) → leZ (pos 0) z ≡ false → T (not (nonNeg z))
@@ -93,10 +93,10 @@ sub-suc a b =
 
 max-suc : (a b : ℤ) → maxZ (sucℤ a) (sucℤ b) ≡ sucℤ (maxZ a b)
 max-suc a b =
-    ap (λ (t : Bool). pick t (sucℤ b) (sucℤ a)) (sym (less-by (sucℤ a) (sucℤ b)) ∙ ap (λ (z : ℤ). ltZ z (pos 0)) (sub-suc a b) ∙ less-by a b)
+    ap (λ (t : Bool). cond t (sucℤ b) (sucℤ a)) (sym (less-by (sucℤ a) (sucℤ b)) ∙ ap (λ (z : ℤ). ltZ z (pos 0)) (sub-suc a b) ∙ less-by a b)
     ∙ either (ltZ a b)
   where
-    either : (t : Bool) → pick t (sucℤ b) (sucℤ a) ≡ sucℤ (pick t b a)
+    either : (t : Bool) → cond t (sucℤ b) (sucℤ a) ≡ sucℤ (cond t b a)
     either true = refl
     either false = refl
 
@@ -111,12 +111,12 @@ logadd-more zero a b = rw (+ℤ-idr a, +ℤ-idr b, +ℤ-idr (logadd a b))
 logadd-more (suc n) a b =
     ap₂ logadd (+ℤ-sucℤ a (pos n)) (+ℤ-sucℤ b (pos n)) ∙ logadd-suc (a +ℤ pos n) (b +ℤ pos n) ∙ ap sucℤ (logadd-more n a b) ∙ sym (+ℤ-sucℤ (logadd a b) (pos n))
 
-level-more : (e : ℤ) → level e ≡ relative e +ℤ pos 3072
-unfolding level relative
+level-more : (e : ℤ) → psdOf e ≡ relative e +ℤ pos 3072
+unfolding psdOf relative
 level-more e =
     +ℤ-comm (pos 3072) (negℤ (e *ℤ pos 128)) ∙ ap (λ (z : ℤ). z +ℤ pos 3072) (sym (+ℤ-idl (negℤ (e *ℤ pos 128))))
 
-pub sum-more : (exponents : List ℤ) (first n : ℕ) → bandSum (relativeAt exponents) first n +ℤ pos 3072 ≡ bandSum (levelAt exponents) first n
+pub sum-more : (exponents : List ℤ) (first n : ℕ) → bandSum (relativeAt exponents) first n +ℤ pos 3072 ≡ bandSum (psdAt exponents) first n
 unfolding bandSum
 sum-more exponents first zero = sym (level-more (at exponents first))
 sum-more exponents first (suc n) =

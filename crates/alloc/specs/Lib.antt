@@ -1,9 +1,6 @@
-pub mod Alloc
+pub mod Allocation
+pub mod Sound
 pub mod Band
 pub mod Fills
-pub mod Excite
-pub mod Delta
-pub mod Allocation
-pub mod Listed
+pub mod Leaks
 pub mod Steps
-pub mod Values

@@ -1,5 +1,5 @@
--- What the code computes in the place of levels: they are the levels less a constant, or counted in steps of 32. `proofs/Shifted.antt`
--- proves that the addresses are those of the definition. Assumes nothing.
+-- What the code computes in the place of psd: they are the psd less a constant, or counted in steps of 32. `proofs/Shifted.antt`
+-- proves that the addresses are those of the definition. No part of the definition: contracts cite it. Assumes nothing.
 use mathlib.Core.List.{List}
 use Prim.Native.Nat.{ℕ, _+_, _*_}
 use lib.IntN.{ℤ, pos, natAbs, _+ℤ_, _-ℤ_, _*ℤ_}
@@ -7,11 +7,18 @@ use lib.ListN.{getD}
 use lib.Signed.{shrZ, _≤ℤ_}
 use Rattle.signed.specs.Level.{maxZ, clampZ}
 use Rattle.tables.specs.Tables.{hearing, bap}
-use Rattle.alloc.specs.Alloc.{at, overKnee, threshold}
+use Rattle.alloc.specs.Allocation.{at, overKnee, threshold, mappedPsd, integratedPsd, excitation, maskingCurve, deltaApplied, thresholds}
+use Rattle.alloc.specs.declared.Parameters.{Parameters}
 
--- every exponent is one
-abbrev pub Exponents : List ℤ → Type 0
-Exponents exponents = (bin : ℕ) → (pos 0 ≤ℤ at exponents bin) × (at exponents bin ≤ℤ pos 24)
+-- what 6.2.2.2 to 6.2.2.7 leave in the mask
+abbrev pub bandsOf : List ℤ → Parameters → ℕ → ℤ
+bandsOf exponents p = integratedPsd p (mappedPsd p exponents)
+
+abbrev pub masksOf : List ℤ → Parameters → ℕ → ℤ
+masksOf exponents p = maskingCurve p (bandsOf exponents p) (excitation p (bandsOf exponents p))
+
+abbrev pub thresholdsOf : List ℤ → Parameters → ℕ → ℤ
+thresholdsOf exponents p = thresholds p (deltaApplied p (masksOf exponents p))
 
 abbrev pub Address : ℤ → Type 0
 Address z = (pos 0 ≤ℤ z) × (z ≤ℤ pos 63)
@@ -20,7 +27,7 @@ Address z = (pos 0 ≤ℤ z) × (z ≤ℤ pos 63)
 abbrev pub bapAt : List ℤ → ℕ → ℕ
 bapAt addresses bin = getD bap (natAbs (at addresses bin)) 0
 
--- a bin's level below that of exponent 0
+-- a bin's psd less that of exponent 0
 unfoldable pub relative : ℤ → ℤ
 relative exponent = pos 0 -ℤ exponent *ℤ pos 128
 

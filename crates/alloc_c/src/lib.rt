@@ -1,12 +1,10 @@
 // The bit allocation for callers in Rust and C. It exists to hold the allocation against the original's (compare/alloc), call by call; the
 // parser does without it. What `alloc::allocate` requires is tested here, so that any call has an answer.
 use alloc::Gains;
-use alloc::Leak;
+use alloc::Parameters;
+ghost use mathlib.Core.Bool.{cond, _&&_};
 ghost use mathlib.Core.Path.{_≡_};
-ghost use Prim.Native.Nat.{ℕ};
-ghost use lib.ListN.{getD};
-ghost use Rattle.signed.specs.Level.{pick, both};
-ghost use Rattle.alloc_c.specs.Accepted.{startFits, rangeFits, codesFit, isExponent, exponentsFit, accepted, answer};
+ghost use Rattle.alloc_c.specs.Accepted.{startFits, rangeFits, codesFit, isExponent, exponentsFit, accepted, parametersOf, answer};
 
 // A slot starts at bin 0, and the coupling channel at bin 37 or later.
 fn start_fits(start: usize) -> bool
@@ -43,7 +41,7 @@ fn is_exponent(e: i16) -> bool
 }
 
 fn both(a: bool, b: bool) -> bool
-    ensures { λ r. ⌜ r ≡ both a b ⌝ }
+    ensures { λ r. ⌜ r ≡ (a && b) ⌝ }
 {
     if a { b } else { false }
 }
@@ -84,7 +82,7 @@ pub extern "C" fn ferrysprig_allocate(
     count: usize,
     out: &mut [u8; 256],
 ) -> bool
-    ensures { λ r. ⌜ (r ≡ accepted (now (exponents .entry)) start end fscod csnroffst fsnroffst count) × ((bin : ℕ) → getD (now (out .exit)) bin 0 ≡ pick r (answer (now (exponents .entry)) start end sdcycod fdcycod sgaincod dbpbcod floorcod fgaincod fscod csnroffst fsnroffst fastleak slowleak (now (segments .entry)) count bin) (getD (now (out .entry)) bin 0)) ⌝ }
+    ensures { λ r. ⌜ (r ≡ accepted (now (exponents .entry)) start end fscod csnroffst fsnroffst count) × (now (out .exit) ≡ cond r (answer (now (exponents .entry)) (parametersOf start end sdcycod fdcycod sgaincod dbpbcod floorcod fgaincod fscod csnroffst fsnroffst fastleak slowleak (now (segments .entry)) count)) (now (out .entry))) ⌝ }
 {
     if !range_fits(start, end) {
         return false;
@@ -95,34 +93,26 @@ pub extern "C" fn ferrysprig_allocate(
     if !exponents_fit(*exponents) {
         return false;
     }
-    let g = Gains {
+    let gains = Gains {
         fdecay: tables::fast_decay(fdcycod),
         sdecay: tables::slow_decay(sdcycod),
         fgain: tables::fast_gain(fgaincod),
         sgain: tables::slow_gain(sgaincod),
     };
-    let leak = Leak {
-        fast: fastleak as i32,
-        slow: slowleak as i32,
-        low: 0,
-        excite: 0,
-        risen: false,
-    };
-    let knee = tables::db_knee(dbpbcod);
-    let snroffset = alloc::snr_offset(csnroffst, fsnroffst);
-    let floor = tables::floor(floorcod);
-    *out = alloc::allocate(
-        exponents,
+    let segments = *segments;
+    let parameters = Parameters {
         start,
         end,
-        g,
-        knee,
+        gains,
+        fastleak: fastleak as i32,
+        slowleak: slowleak as i32,
+        dbknee: tables::db_knee(dbpbcod),
         fscod,
-        leak,
-        snroffset,
-        floor,
         segments,
         count,
-    );
+        snroffset: alloc::snr_offset(csnroffst, fsnroffst),
+        floor: tables::floor(floorcod),
+    };
+    *out = alloc::allocate(exponents, parameters);
     true
 }

@@ -1,4 +1,4 @@
--- Delta bit allocation (4.3.3, 4.4.3.47): for each slot up to eight segments, kept from block to block.
+-- Delta bit allocation (4.3.3, 4.4.3.47 to 4.4.3.57): for each slot up to eight segments, kept from block to block.
 use mathlib.Core.Bool.{Bool, _&&_, cond}
 use mathlib.Core.List.{List, [], _∷_}
 use Prim.Native.Nat.{ℕ, _+_, _*_}
@@ -19,7 +19,7 @@ pub record Coded : Type 0 where
   pub codes : List ℕ
   pub deltas : List Deltas
 
--- Table 4.11: 0 keeps the segments, 1 announces new ones, 2 clears them
+-- cpldeltbae and deltbae (4.4.3.48, .49; Table 4.11): 0 keeps the segments, 1 announces new ones, 2 clears them
 unfoldable pub deltaCode : (blk slot : ℕ) → Item → Coded → Grammar Coded
 deltaCode blk slot item d = do
   deltbae ← take item 2
@@ -30,7 +30,7 @@ deltaCode blk slot item d = do
 unfoldable pub channelCode : (blk ch : ℕ) → Coded → Grammar Coded
 channelCode blk ch = deltaCode blk ch (nth blk Name.deltbae ch)
 
--- a segment: the bands that it skips, its length and its code. The names of coupling's stand before those of the channels.
+-- a segment (4.4.3.51 to .53, .55 to .57): the bands that it skips, its length and its code. The names of coupling's stand before those of the channels.
 abbrev pub deltaName : (slot coupling channel : ℕ) → ℕ
 deltaName slot coupling channel = cond (eqb slot CPL) coupling channel
 
@@ -41,6 +41,7 @@ segment blk slot seg segments = do
   deltba ← take (nth blk (deltaName slot Name.cpldeltba Name.deltba) slot) 3
   done (sets segments (seg * 3) (deltoffst ∷ deltlen ∷ deltba ∷ []))
 
+-- deltnseg (4.4.3.50, .54) is one less than the segments
 unfoldable pub newDeltas : (blk slot : ℕ) → Grammar Deltas
 newDeltas blk slot = do
   deltnseg ← take (nth blk (deltaName slot Name.cpldeltnseg Name.deltnseg) slot) 3
@@ -62,7 +63,7 @@ codedDeltas blk nfchans cplinu old = do
   new ← slotDeltas blk (d .codes) CPL (d .deltas)
   for 0 nfchans new (slotDeltas blk (d .codes))
 
--- Where deltbaie is 0 the segments stay; in block 0 there are none.
+-- Where deltbaie (4.4.3.47) is 0 the segments stay; in block 0 there are none.
 unfoldable pub deltas : (blk nfchans : ℕ) (cplinu : Bool) → List Deltas → Grammar (List Deltas)
 deltas blk nfchans cplinu old = do
   deltbaie ← flag (one blk Name.deltbaie)

@@ -1,4 +1,5 @@
--- The parameters of the bit allocation (4.3.3): the masking curve, the SNR offsets and the coupling leak.
+-- The parameters of the bit allocation (4.3.3): the masking curve (4.4.3.30 to .35), the SNR offsets (4.4.3.36 to .43) and the coupling leak
+-- (4.4.3.44 to .46).
 use mathlib.Core.Bool.{Bool, true, false, _&&_, not}
 use Prim.Native.Nat.{ℕ}
 use lib.Dec.{eqb}

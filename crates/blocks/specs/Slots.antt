@@ -1,4 +1,5 @@
--- The channel slots of a block: full bandwidth channels 0 to 4, coupling 5, LFE 6, the bins of each (4.4.3), and whether its exponents are new.
+-- The channel slots of a block: full bandwidth channels 0 to 4, coupling 5, LFE 6, the bins of each (4.4.3.11, .12 and .24), and whether its
+-- exponents are new.
 use mathlib.Core.Bool.{Bool, false, not}
 use Prim.Native.Nat.{ℕ, _+_, _-_, _*_}
 use lib.Dec.{eqb, ltb}
@@ -11,7 +12,7 @@ CPL = 5
 abbrev pub LFE : ℕ
 LFE = 6
 
--- coupling sub-bands, twelve bins each; the first bin, and the first bin past the last
+-- cplbegf and cplendf (4.4.3.11, 4.4.3.12): coupling sub-bands, twelve bins each; the first bin, and the first bin past the last
 abbrev pub subBands : (cplbegf cplendf : ℕ) → ℕ
 subBands cplbegf cplendf = 3 + cplendf - cplbegf
 
@@ -24,13 +25,14 @@ firstCoupled cplbegf = 37 + 12 * cplbegf
 abbrev pub pastCoupled : ℕ → ℕ
 pastCoupled cplendf = 37 + 12 * (cplendf + 3)
 
--- a channel that is not coupled ends here; a coupled one ends where the coupling begins
+-- chbwcod (4.4.3.24): a channel that is not coupled ends here; a coupled one ends where the coupling begins
 abbrev pub pastChannel : ℕ → ℕ
 pastChannel chbwcod = 37 + 3 * (chbwcod + 12)
 
+-- chincpl (4.4.3.9)
 abbrev pub coupled : Coupling → ℕ → Bool
 coupled c ch = getD (c .chincpl) ch false
 
--- strategy 0 reuses the exponents in force
+-- exponent strategies (4.4.3.21 to 4.4.3.23): 0 reuses the exponents in force
 abbrev pub isNew : ℕ → Bool
 isNew strategy = not (eqb strategy 0)

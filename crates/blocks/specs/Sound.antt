@@ -4,7 +4,7 @@ use mathlib.Core.List.{List, []}
 use Prim.Native.Nat.{ℕ, _+_, _*_, _<_, _≤_}
 use lib.IntN.{ℤ, pos}
 use lib.ListN.{getD}
-use Rattle.alloc.specs.Steps.{Exponents}
+use Rattle.alloc.specs.Sound.{Exponents}
 use Rattle.blocks.specs.Delta.{noDeltas}
 use Rattle.blocks.specs.declared.AllocState.{AllocState}
 use Rattle.blocks.specs.declared.Coupling.{Coupling}

@@ -14,15 +14,16 @@ howMany [] = 0
 howMany (true ∷ bs) = 1 + howMany bs
 howMany (false ∷ bs) = howMany bs
 
--- cplinu 0: no channel is coupled; the range stays
+-- cplinu 0 (4.4.3.8): no channel is coupled; the range stays
 abbrev pub uncoupled : Coupling → Coupling
 uncoupled c =
     record { cplinu = false; chincpl = replicate 5 false; phsflginu = false; cplbegf = c .cplbegf; cplendf = c .cplendf; ncplbnd = c .ncplbnd }
 
+-- chincpl (4.4.3.9)
 unfoldable pub coupledChannels : (blk nfchans : ℕ) → Grammar (List Bool)
 coupledChannels blk nfchans = fill nfchans (replicate 5 false) (λ ch. flag (nth blk Name.chincpl ch))
 
--- a sub-band that joins the band before it
+-- cplbndstrc (4.4.3.13): a sub-band that joins the band before it
 unfoldable pub joined : (blk bnd bands : ℕ) → Grammar ℕ
 joined blk bnd bands = do
   cplbndstrc ← flag (nth blk Name.cplbndstrc bnd)
@@ -32,7 +33,7 @@ joined blk bnd bands = do
 unfoldable pub couplingBands : (blk subbands : ℕ) → Grammar ℕ
 couplingBands blk subbands = for 1 subbands subbands (joined blk)
 
--- cplinu 1
+-- cplinu 1: chincpl to cplbndstrc (4.4.3.9 to 4.4.3.13)
 unfoldable pub newCoupling : (blk acmod nfchans : ℕ) → Grammar Coupling
 newCoupling blk acmod nfchans = do
   chincpl ← coupledChannels blk nfchans
@@ -44,6 +45,7 @@ newCoupling blk acmod nfchans = do
   refuseIf (ltb (howMany chincpl) 2) 10
   done (record { cplinu = true; chincpl = chincpl; phsflginu = phsflginu; cplbegf = cplbegf; cplendf = cplendf; ncplbnd = ncplbnd })
 
+-- cplstre (4.4.3.7)
 unfoldable pub couplingStrategy : (blk acmod nfchans : ℕ) → Coupling → Grammar Coupling
 couplingStrategy blk acmod nfchans old = do
   cplstre ← flag (one blk Name.cplstre)
@@ -52,14 +54,14 @@ couplingStrategy blk acmod nfchans old = do
     cplinu ← flag (one blk Name.cplinu)
     readIf cplinu (uncoupled old) (newCoupling blk acmod nfchans)
 
--- ---- coordinates
+-- ---- coordinates (4.4.3.14 to 4.4.3.18)
 
 unfoldable pub coordinate : (blk ch bnd : ℕ) → Grammar (Unit {0})
 coordinate blk ch bnd = do
   note (nth blk Name.cplcoexp ch) 4
   note (nth blk Name.cplcomant ch) 4
 
--- whether a channel sent coordinates
+-- whether a channel sent coordinates: cplcoe (4.4.3.14)
 unfoldable pub channelCoordinates : (blk : ℕ) → Coupling → ℕ → Grammar Bool
 channelCoordinates blk c ch = readIf (coupled c ch) false do
   cplcoe ← flag (nth blk Name.cplcoe ch)
@@ -78,7 +80,7 @@ couplingCoordinates blk nfchans c = readIf (c .cplinu) (replicate 5 false) do
   when (c .phsflginu && (getD sent 0 false || getD sent 1 false)) (phaseFlags blk (c .ncplbnd))
   done sent
 
--- ---- rematrixing, Table 4.10
+-- ---- rematrixing (4.4.3.19, 4.4.3.20), Table 4.10
 
 abbrev pub rematrixBands : Coupling → ℕ
 rematrixBands c = cond (not (c .cplinu) || ltb 2 (c .cplbegf)) 4 (cond (ltb 0 (c .cplbegf)) 3 2)

@@ -1,4 +1,4 @@
--- The exponent strategies of a block, and the bandwidths of its channels (4.3.3).
+-- The exponent strategies of a block (4.3.3, 4.4.3.21 to .23), and the bandwidths of its channels (4.4.3.24).
 use mathlib.Core.Bool.{Bool, true, false, _&&_, not}
 use mathlib.Core.List.{List}
 use Prim.Native.Nat.{ℕ}

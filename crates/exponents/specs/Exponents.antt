@@ -1,4 +1,4 @@
--- The exponents of a block (4.3.3, 6.1.3). Those in force are seven rows of 256, one for each slot.
+-- The exponents of a block (4.3.3, 4.4.3.25 to .29, 6.1.3). Those in force are seven rows of 256, one for each slot.
 use mathlib.Core.Bool.{Bool, true, false, _&&_, _||_, not, cond}
 use mathlib.Core.List.{List, _++_}
 use Prim.Native.Nat.{ℕ, _+_, _-_, _*_, _/_, _%_, _^_}
@@ -16,6 +16,7 @@ use Rattle.blocks.specs.declared.Strategies.{Strategies}
 
 -- ---- one set, 6.1.3: a first exponent, and then differences, three to a group, each of them for 1, 2 or 4 bins
 
+-- strategy 1 is D15, 2 is D25 and 3 is D45: an exponent stands for 1, 2 or 4 bins
 abbrev pub binsEach : ℕ → ℕ
 binsEach strategy = 2 ^ (strategy - 1)
 

@@ -8,7 +8,7 @@ use Rattle.syntax.specs.Grammar.{Grammar, done, _>>=_, _>>_, plain, roled, take
 use Rattle.syntax.specs.Names as Name
 use Rattle.header.specs.declared.Header.{Header}
 
--- fscod, and the bytes of the frame
+-- fscod (4.4.1.3), and the bytes of the frame, which it gives with frmsizecod (4.4.1.4)
 unfoldable pub syncinfo : Grammar (ℕ × ℕ)
 syncinfo = do
   framed 1 6
@@ -35,7 +35,7 @@ programmeInfo p = do
     note (plain (Name.mixlevel + 8 * p)) 5
     note (plain (Name.roomtyp + 8 * p)) 2
 
--- acmod 0 is two programmes
+-- acmod 0 is two programmes (4.4.2.3)
 abbrev pub programmes : (acmod : ℕ) → ℕ
 programmes acmod = cond (eqb acmod 0) 2 1
 
@@ -64,6 +64,7 @@ timeCodes = do
   timecod2e ← flag (plain Name.timecod2e)
   when timecod2e (note (plain Name.timecod2) 14)
 
+-- addbsil is one less than the bytes of addbsi (4.4.2.30)
 unfoldable pub additionalInfo : Grammar (Unit {0})
 additionalInfo = do
   addbsie ← flag (plain Name.addbsie)
@@ -71,6 +72,8 @@ additionalInfo = do
     addbsil ← take (plain Name.addbsil) 6
     pass (roled Addbsi Name.addbsi) (8 * (addbsil + 1))
 
+-- bsid above 8 is not of this standard (4.4.2.1); acmod says which mix levels follow (4.4.2.3 to 4.4.2.6), lfeon whether there is an LFE channel
+-- (4.4.2.7)
 unfoldable pub bsi : (fscod bytes : ℕ) → Grammar Header
 bsi fscod bytes = do
   bsid ← take (plain Name.bsid) 5

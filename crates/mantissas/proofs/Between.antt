@@ -10,7 +10,7 @@ use lib.Dec.{eqb}
 use lib.ListN.{length, getD, set, replicate}
 use lib.Seq.{getD-set-same, getD-set-other}
 use borrow.Author.Tests.{eqb-true, eqb-false}
-use Rattle.alloc.specs.Listed.{from}
+use Rattle.alloc.specs.Allocation.{from}
 use Rattle.mantissas.specs.Counts.{between}
 
 module _ {A : Type 0} (f : ℕ → A) {i last : ℕ} where

@@ -3,7 +3,7 @@ use mathlib.Core.Bool.{Bool, true, false}
 use mathlib.Core.List.{List, []}
 use mathlib.Core.Logic.{_⊎_, inl, inr}
 use mathlib.Core.Path.{_≡_, refl, ap, sym, _∙_}
-use Prim.Native.Nat.{ℕ, zero, suc, _<_}
+use Prim.Native.Nat.{ℕ, zero, suc, _<_, zero-le}
 use native.Mathlib.Nat.{not-suc-le-zero, le-of-suc-le-suc}
 use native.Mathlib.Omega.{arith}
 use lib.Dec.{eqb}
@@ -11,21 +11,20 @@ use lib.IntN.{ℤ}
 use lib.ListN.{length-set, getD, set, replicate}
 use lib.Seq.{getD-set-same, getD-set-other}
 use borrow.Author.Tests.{eqb-true, eqb-false}
-use Rattle.alloc.specs.Delta.{deltaSum}
-use Rattle.alloc.specs.Listed.{from, pointerList}
+use Rattle.alloc.proofs.Laws.{allocation-none, allocation-unsegmented}
 use Rattle.blocks.specs.Forgotten.{nothing, Forgets}
 use Rattle.blocks.specs.declared.AllocState.{AllocState}
 use Rattle.mantissas.specs.Counts.{noCounts, countedAll}
-use Rattle.mantissas.specs.Kept.{memoOf, pointersBy, countsIn, SameBasis, KeptOf, Kept}
-use Rattle.mantissas.specs.Mantissas.{deltasOf, pointers}
+use Rattle.mantissas.specs.Kept.{memoOf, parametersBy, pointersBy, countsIn, SameBasis, KeptOf, Kept}
+use Rattle.mantissas.specs.Mantissas.{deltasOf, parametersOf, pointers}
 use Rattle.mantissas.specs.declared.Counts.{Counts}
 use Rattle.mantissas.specs.declared.Part.{Part}
 
 -- without delta segments, the pointers go by the memo
 by-memo : (fscod : ℕ) (st : AllocState) (exps : List (List ℤ)) (p : Part) (n : Counts) → deltasOf st (p .slot) .count ≡ 0
     → pointers fscod st exps p ≡ pointersBy fscod (p .slot) (λ i. getD (memoOf st p n) i 0) (getD exps (p .slot) [])
-unfolding pointers pointerList deltaSum
-by-memo fscod st exps p n e = rw e
+unfolding pointers
+by-memo fscod st exps p n e = allocation-unsegmented (getD exps (p .slot) []) (parametersOf fscod st p) e
 
 -- what goes by the same has the same pointers
 by-same : (fscod slot : ℕ) (k l : ℕ → ℕ) (row : List ℤ) → ((i : ℕ) → i < 12 → k i ≡ l i) → pointersBy fscod slot k row ≡ pointersBy fscod slot l row
@@ -67,8 +66,8 @@ keeps fscod slot memos exps memo p all here = record { seven = length-set memos 
 
 -- nothing is kept: no bins, none counted
 kept-nothing : (fscod slot : ℕ) (row : List ℤ) → KeptOf fscod slot nothing row
-unfolding pointerList from countedAll
-kept-nothing fscod slot row = refl
+unfolding countedAll
+kept-nothing fscod slot row = rw (allocation-none row (parametersBy fscod slot (λ i. getD nothing i 0)) zero-le)
 
 pub kept-none : (fscod : ℕ) (exps : List (List ℤ)) → Kept fscod (replicate 7 nothing) exps
 kept-none fscod exps = record { seven = refl; each = λ slot h. rw (filled-entry 7 slot nothing [] h) (kept-nothing fscod slot (getD exps slot [])) }

@@ -7,7 +7,7 @@ use Prim.Native.Nat.{ℕ, _+_, _-_, _≤_}
 use lib.Dec.{eqb}
 use lib.IntN.{ℤ}
 use lib.ListN.{take, drop}
-use Rattle.alloc.specs.Listed.{from}
+use Rattle.alloc.specs.Allocation.{from}
 use Rattle.syntax.specs.declared.Role.the-variants.{Mantissas}
 use Rattle.syntax.specs.Grammar.{oneRoled}
 use Rattle.syntax.specs.Names as Name

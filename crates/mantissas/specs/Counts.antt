@@ -7,8 +7,7 @@ use lib.Dec.{eqb}
 use lib.IntN.{ℤ}
 use lib.ListN.{getD}
 use Rattle.tables.specs.Tables.{bapBits}
-use Rattle.alloc.specs.Alloc.{at}
-use Rattle.alloc.specs.Listed.{from}
+use Rattle.alloc.specs.Allocation.{at, from}
 use Rattle.alloc.specs.Steps.{Address, bapAt}
 use Rattle.mantissas.specs.Mantissas.{Open}
 use Rattle.mantissas.specs.Parts.{part}

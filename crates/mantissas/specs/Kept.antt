@@ -1,17 +1,16 @@
 -- What was counted of a slot is kept with what it was counted from, besides its exponents: those in force. So it need not be counted again while
 -- all that is the same. No part of the definition: `Kept` only says that what is kept is true.
-use mathlib.Core.Bool.{true}
 use mathlib.Core.List.{List, [], _∷_}
 use mathlib.Core.Path.{_≡_}
 use Prim.Native.Nat.{ℕ, _<_}
 use lib.IntN.{ℤ}
 use lib.ListN.{length, getD}
 use Rattle.tables.specs.Tables.{slowDecay, fastDecay, slowGain, fastGain, knee, floor}
-use Rattle.alloc.specs.Alloc.{snrOffset}
-use Rattle.alloc.specs.Listed.{pointerList}
+use Rattle.alloc.specs.Allocation.{snrOffset, allocation}
+use Rattle.alloc.specs.declared.Parameters.{Parameters}
 use Rattle.blocks.specs.declared.AllocState.{AllocState}
 use Rattle.mantissas.specs.Counts.{noCounts, countedAll}
-use Rattle.mantissas.specs.Mantissas.{leakBefore}
+use Rattle.mantissas.specs.Mantissas.{leakOf}
 use Rattle.mantissas.specs.declared.Counts.{Counts}
 use Rattle.mantissas.specs.declared.Part.{Part}
 
@@ -25,11 +24,24 @@ memoOf st p n =
     ∷ n .bits ∷ n .ones ∷ n .twos ∷ n .fours ∷ []
 
 -- the pointers that go by it
+abbrev pub parametersBy : (fscod slot : ℕ) → (ℕ → ℕ) → Parameters
+parametersBy fscod slot k =
+    record {
+      start = k 0;
+      end = k 1;
+      gains = record { fdecay = fastDecay (k 3); sdecay = slowDecay (k 2); fgain = fastGain (k 9); sgain = slowGain (k 4) };
+      fastleak = leakOf slot (k 10);
+      slowleak = leakOf slot (k 11);
+      dbknee = knee (k 5);
+      fscod = fscod;
+      segments = [];
+      count = 0;
+      snroffset = snrOffset (k 7) (k 8);
+      floor = floor (k 6);
+    }
+
 abbrev pub pointersBy : (fscod slot : ℕ) → (ℕ → ℕ) → List ℤ → List ℕ
-pointersBy fscod slot k row =
-    pointerList row (k 0) (k 1)
-    (record { fdecay = fastDecay (k 3); sdecay = slowDecay (k 2); fgain = fastGain (k 9); sgain = slowGain (k 4) })
-    (knee (k 5)) fscod (leakBefore (record { sent = true; cplfleak = k 10; cplsleak = k 11 }) slot) (snrOffset (k 7) (k 8)) (floor (k 6)) [] 0
+pointersBy fscod slot k row = allocation row (parametersBy fscod slot k)
 
 abbrev pub countsIn : List ℕ → Counts
 countsIn kept = record { bits = getD kept 12 0; ones = getD kept 13 0; twos = getD kept 14 0; fours = getD kept 15 0 }

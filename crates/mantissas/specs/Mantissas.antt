@@ -1,4 +1,5 @@
--- The bit allocation of a block and its mantissas (4.3.3, 6.2.2.1, 6.3.5): one list of bit allocation pointers, one pass.
+-- The bit allocation of a block and its mantissas (4.3.3, 4.4.3.61 to .63, 6.2.2.1, 6.3.5): one list of bit allocation pointers, one pass. A `bap`
+-- is one such pointer.
 use mathlib.Core.Bool.{Bool, true, false, _&&_, not, cond}
 use mathlib.Core.List.{List, [], _∷_, _++_}
 use Prim.Native.Nat.{ℕ, _+_, _-_, _*_, _%_}
@@ -6,10 +7,9 @@ use lib.Dec.{eqb}
 use lib.IntN.{ℤ, pos}
 use lib.ListN.{getD, replicate}
 use Rattle.tables.specs.Tables.{slowDecay, fastDecay, slowGain, fastGain, knee, floor, bapBits}
-use Rattle.alloc.specs.Alloc.{snrOffset}
-use Rattle.alloc.specs.Listed.{pointerList}
+use Rattle.alloc.specs.Allocation.{snrOffset, allocation}
 use Rattle.alloc.specs.declared.Gains.{Gains}
-use Rattle.alloc.specs.declared.Leak.{Leak}
+use Rattle.alloc.specs.declared.Parameters.{Parameters}
 use Rattle.syntax.specs.declared.Role.the-variants.{Mantissas}
 use Rattle.syntax.specs.Grammar.{Grammar, done, _>>=_, _>>_, oneRoled, pieces, position, refuseIf}
 use Rattle.syntax.specs.Names as Name
@@ -17,24 +17,21 @@ use Rattle.blocks.specs.Delta.{noDeltas}
 use Rattle.blocks.specs.Slots.{CPL, LFE}
 use Rattle.blocks.specs.declared.AllocState.{AllocState}
 use Rattle.blocks.specs.declared.Coupling.{Coupling}
-use Rattle.blocks.specs.declared.CouplingLeak.{CouplingLeak}
 use Rattle.blocks.specs.declared.Deltas.{Deltas}
 use Rattle.blocks.specs.declared.Offsets.{Offsets}
 use Rattle.mantissas.specs.Parts.{parts}
 use Rattle.mantissas.specs.declared.Part.{Part}
 
--- ---- 6.2.2.1: pointers
+-- ---- 6.2.2.1: what the allocation of a slot goes by, and its pointers
 
--- the coarse offset and the fine ones of the slots in use are all 0: then every pointer is 0
+-- the special case: the coarse offset and the fine ones of the slots in use are all 0: then every pointer is 0
 unfoldable pub silent : Offsets → List Part → Bool
 silent o [] = eqb (o .csnroffst) 0
 silent o (p ∷ ps) = eqb (getD (o .fsnroffst) (p .slot) 0) 0 && silent o ps
 
--- the leaks of a slot before its first band
-abbrev pub leakBefore : CouplingLeak → (slot : ℕ) → Leak
-leakBefore l slot =
-    let start : ℕ → ℤ = λ code. cond (eqb slot CPL) (pos (256 * code + 768)) (pos 0) in
-    record { fast = start (l .cplfleak); slow = start (l .cplsleak); low = pos 0; excite = pos 0; risen = false }
+-- the leak of a slot before its first band, by its code: coupling alone has one
+abbrev pub leakOf : (slot code : ℕ) → ℤ
+leakOf slot code = cond (eqb slot CPL) (pos (256 * code + 768)) (pos 0)
 
 abbrev pub gainsOf : AllocState → (slot : ℕ) → Gains
 gainsOf st slot =
@@ -49,12 +46,25 @@ gainsOf st slot =
 abbrev pub deltasOf : AllocState → (slot : ℕ) → Deltas
 deltasOf st slot = cond (eqb slot LFE) noDeltas (getD (st .deltas) slot noDeltas)
 
+abbrev pub parametersOf : (fscod : ℕ) → AllocState → Part → Parameters
+parametersOf fscod st p =
+    record {
+      start = p .start;
+      end = p .end;
+      gains = gainsOf st (p .slot);
+      fastleak = leakOf (p .slot) (st .leak .cplfleak);
+      slowleak = leakOf (p .slot) (st .leak .cplsleak);
+      dbknee = knee (st .curve .dbpbcod);
+      fscod = fscod;
+      segments = deltasOf st (p .slot) .segments;
+      count = deltasOf st (p .slot) .count;
+      snroffset = snrOffset (st .offsets .csnroffst) (getD (st .offsets .fsnroffst) (p .slot) 0);
+      floor = floor (st .curve .floorcod);
+    }
+
+-- 6.2.2.2 to 6.2.2.7
 unfoldable pub pointers : (fscod : ℕ) → AllocState → List (List ℤ) → Part → List ℕ
-pointers fscod st exps p =
-    let d = deltasOf st (p .slot) in
-    let snr = snrOffset (st .offsets .csnroffst) (getD (st .offsets .fsnroffst) (p .slot) 0) in
-    pointerList (getD exps (p .slot) []) (p .start) (p .end) (gainsOf st (p .slot)) (knee (st .curve .dbpbcod)) fscod (leakBefore (st .leak) (p .slot))
-    snr (floor (st .curve .floorcod)) (d .segments) (d .count)
+pointers fscod st exps p = allocation (getD exps (p .slot) []) (parametersOf fscod st p)
 
 abbrev pub partPointers : (fscod : ℕ) → AllocState → List (List ℤ) → (quiet : Bool) → Part → List ℕ
 partPointers fscod st exps quiet p = cond quiet (replicate (p .end - p .start) 0) (pointers fscod st exps p)

@@ -8,11 +8,10 @@ use crate::packed::FOUR;
 use crate::packed::ONE;
 use crate::packed::TWO;
 use alloc::Gains;
-use alloc::Leak;
+use alloc::Parameters;
 use blocks::AllocState;
 use blocks::CPL;
 use blocks::Coupling;
-use blocks::CouplingLeak;
 use blocks::Deltas;
 use blocks::LFE;
 use blocks::Offsets;
@@ -28,10 +27,11 @@ ghost use Prim.Native.Nat.{ℕ, suc, _+_, _*_, _<_, _≤_};
 ghost use lib.IntN.{pos};
 ghost use lib.ListN.{length, getD, replicate};
 ghost use Rattle.tables.specs.Tables.{bap};
-ghost use Rattle.alloc.specs.Excite.{Bounded};
+ghost use Rattle.signed.specs.Bound.{Below};
+ghost use Rattle.alloc.specs.Sound.{SoundParameters};
 ghost use Rattle.syntax.specs.Reads.{Reads, walked};
 ghost use Rattle.blocks.specs.Delta.{noDeltas};
-ghost use Rattle.blocks.specs.Sound.{SoundCoupling, SoundEnds, SoundAlloc, SoundLeak, SoundSegments, SoundExps};
+ghost use Rattle.blocks.specs.Sound.{SoundCoupling, SoundEnds, SoundAlloc, SoundSegments, SoundExps};
 ghost use Rattle.mantissas.specs.Mantissas as grammar;
 ghost use Rattle.mantissas.specs.Mantissas.{noneOpen, widths, allPointers, partPointers};
 ghost use Rattle.mantissas.specs.Parts as slots;
@@ -180,27 +180,15 @@ fn leak_missing(quiet: bool, cplinu: bool, sent: bool) -> bool
     if cplinu { !sent } else { false }
 }
 
-// The leaks of a slot before its first band.
-fn leak_before(leak: CouplingLeak, slot: u8) -> Leak
-    requires { ⌜ SoundLeak leak ⌝ }
-    ensures { λ r. ⌜ (r ≡ grammar.leakBefore leak slot) × Bounded r ⌝ }
+// The leak of a slot before its first band, by its code: coupling alone has one.
+fn leak_of(slot: u8, code: u8) -> i32
+    requires { ⌜ code < 8 ⌝ }
+    ensures { λ r. ⌜ (r ≡ grammar.leakOf slot code) × Below 17 r ⌝ }
 {
     if slot == CPL {
-        return Leak {
-            fast: (256 * leak.cplfleak as u32 + 768) as i32,
-            slow: (256 * leak.cplsleak as u32 + 768) as i32,
-            low: 0,
-            excite: 0,
-            risen: false,
-        };
+        return (256 * code as u32 + 768) as i32;
     }
-    Leak {
-        fast: 0,
-        slow: 0,
-        low: 0,
-        excite: 0,
-        risen: false,
-    }
+    0
 }
 
 fn gains_of(st: AllocState, slot: u8) -> Gains
@@ -239,32 +227,42 @@ fn deltas_of(st: AllocState, slot: u8) -> Deltas
     st.deltas[at]
 }
 
+// 6.2.2.1: what the allocation of a slot goes by.
+fn parameters_of(fscod: u8, st: AllocState, p: Part) -> Parameters
+    requires { ⌜ (fscod < 3) × SoundAlloc st × SoundPart p ⌝ }
+    ensures { λ r. ⌜ (r ≡ grammar.parametersOf fscod st p) × SoundParameters r ⌝ }
+{
+    let slot = p.slot;
+    let at = slot as usize;
+    let curve = st.curve;
+    let offsets = st.offsets;
+    let leak = st.leak;
+    let gains = gains_of(st, slot);
+    let deltas = deltas_of(st, slot);
+    let segments = deltas.segments;
+    Parameters {
+        start: p.start,
+        end: p.end,
+        gains,
+        fastleak: leak_of(slot, leak.cplfleak),
+        slowleak: leak_of(slot, leak.cplsleak),
+        dbknee: tables::db_knee(curve.dbpbcod),
+        fscod: fscod as usize,
+        segments,
+        count: deltas.count,
+        snroffset: alloc::snr_offset(offsets.csnroffst, offsets.fsnroffst[at]),
+        floor: tables::floor(curve.floorcod),
+    }
+}
+
 // The addresses of the pointers of a slot's bins.
 fn slot_addresses(out: &mut [i16; 256], fscod: u8, st: AllocState, exps: &[[i16; 256]; 7], p: Part)
     requires { ⌜ (length (now out) ≡ 256) × (fscod < 3) × SoundAlloc st × SoundExps (now exps) × SoundPart p ⌝ }
     ensures { λ _. ⌜ pointersAt (now (out .exit)) (p .start) (p .end) ≡ grammar.pointers fscod st (now (exps .entry)) p ⌝ }
     ensures { λ _. ⌜ Addresses (now (out .exit)) (p .start) (p .end) ⌝ }
 {
-    let slot = p.slot;
-    let at = slot as usize;
-    let curve = st.curve;
-    let offsets = st.offsets;
-    let deltas = deltas_of(st, slot);
-    let segments = deltas.segments;
-    alloc::addresses_of(
-        &mut *out,
-        &exps[at],
-        p.start,
-        p.end,
-        gains_of(st, slot),
-        tables::db_knee(curve.dbpbcod),
-        fscod as usize,
-        leak_before(st.leak, slot),
-        alloc::snr_offset(offsets.csnroffst, offsets.fsnroffst[at]),
-        tables::floor(curve.floorcod),
-        &segments,
-        deltas.count,
-    );
+    let at = p.slot as usize;
+    alloc::addresses_of(&mut *out, &exps[at], parameters_of(fscod, st, p));
 }
 
 // At address 0 stands pointer 0.

@@ -1,6 +1,6 @@
 -- Rules of tables, computed once over the whole table and carried to every entry: one whose entries are at most a bound, and one
 -- that falls by at most one from entry to entry. Assumes nothing.
-use mathlib.Core.Bool.{Bool, true, false}
+use mathlib.Core.Bool.{Bool, true, false, _&&_}
 use mathlib.Core.List.{List, [], _∷_}
 use Prim.Native.Nat.{ℕ, zero, suc, _≤_, _^_, zero-le}
 use native.Mathlib.Nat.{le-trans}
@@ -9,21 +9,20 @@ use lib.IntN.{ℤ, pos}
 use lib.ListN.{getD}
 use lib.Pow.{pow-pos}
 use lib.Signed.{mag}
-use Rattle.signed.specs.Level.{both}
 use Rattle.signed.specs.Bound.{Below}
 
-pub both-left : (a b : Bool) → T (both a b) → T a
+pub both-left : (a b : Bool) → T (a && b) → T a
 both-left true b t = tt
 both-left false b t = t
 
-pub both-right : (a b : Bool) → T (both a b) → T b
+pub both-right : (a b : Bool) → T (a && b) → T b
 both-right true b t = t
 both-right false b t = absurd t
 
 -- each entry is at most n
 abbrev pub small : ℕ → List ℕ → Bool
 small n [] = true
-small n (y ∷ ys) = both (leb y n) (small n ys)
+small n (y ∷ ys) = leb y n && small n ys
 
 pub small-at : (n : ℕ) (ys : List ℕ) → T (small n ys) → (k : ℕ) → getD ys k 0 ≤ n
 small-at n [] t k = zero-le
@@ -33,7 +32,7 @@ small-at n (y ∷ ys) t (suc k) = small-at n ys (both-right (leb y n) (small n y
 -- each entry is below k bits
 abbrev pub near : ℕ → List ℤ → Bool
 near k [] = true
-near k (z ∷ zs) = both (ltb (mag z) (2 ^ k)) (near k zs)
+near k (z ∷ zs) = ltb (mag z) (2 ^ k) && near k zs
 
 pub near-at : (k : ℕ) (zs : List ℤ) → T (near k zs) → (n : ℕ) → Below k (getD zs n (pos 0))
 near-at k [] t n = record { below = pow-pos k }
@@ -43,7 +42,7 @@ near-at k (z ∷ zs) t (suc n) = near-at k zs (both-right (ltb (mag z) (2 ^ k)) 
 -- each entry equals the one before it or is one less; x stands before the first
 abbrev pub falls : ℕ → List ℕ → Bool
 falls x [] = true
-falls x (y ∷ ys) = both (leb y x) (both (leb x (suc y)) (falls y ys))
+falls x (y ∷ ys) = leb y x && (leb x (suc y) && falls y ys)
 
 entry : (x y : ℕ) (ys : List ℕ) → y ≤ x → ((k : ℕ) → getD ys k 0 ≤ y) → (k : ℕ) → getD (y ∷ ys) k 0 ≤ x
 entry x y ys h all zero = h
@@ -52,6 +51,6 @@ entry x y ys h all (suc k) = le-trans (all k) h
 pub falls-le : (x : ℕ) (ys : List ℕ) → T (falls x ys) → (k : ℕ) → getD ys k 0 ≤ x
 falls-le x [] t k = zero-le
 falls-le x (y ∷ ys) t k =
-    let first = leb→le y x (both-left (leb y x) (both (leb x (suc y)) (falls y ys)) t) in
-    let rest = both-right (leb x (suc y)) (falls y ys) (both-right (leb y x) (both (leb x (suc y)) (falls y ys)) t) in
+    let first = leb→le y x (both-left (leb y x) (leb x (suc y) && falls y ys) t) in
+    let rest = both-right (leb x (suc y)) (falls y ys) (both-right (leb y x) (leb x (suc y) && falls y ys) t) in
     entry x y ys first (falls-le y ys rest) k

@@ -51,6 +51,7 @@ pub fn frame_bytes(fscod: u8, frmsizecod: u8) -> u16
     if fscod == 1 {
         return 2 * words_44(frmsizecod);
     }
+    // At 32 kHz a frame has half as many words again as at 48.
     if fscod == 2 {
         return 3 * words_48(frmsizecod / 2);
     }

@@ -8,7 +8,7 @@ use lib.ListN.{getD}
 use mir.Syntax.{w16}
 use mir.Val.{toZ, ofZ}
 use Rattle.signed.specs.Bound.{back-16}
-use Rattle.alloc.specs.Alloc.{at}
+use Rattle.alloc.specs.Allocation.{at}
 use Rattle.alloc.specs.Fills.{Fills}
 use Rattle.alloc.specs.Steps.{addressFrom}
 use Rattle.alloc.proofs.Filled.{fills-none, fills-set, fills-rest}

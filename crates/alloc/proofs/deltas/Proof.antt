@@ -2,7 +2,7 @@
 -- grown by at most 2^16 with each. Assumes nothing.
 use mathlib.Core.Path.{_≡_, _∙_, refl, ap, ap₂, sym}
 use mathlib.Core.List.{List}
-use mathlib.Core.Bool.{Bool, true, false}
+use mathlib.Core.Bool.{Bool, true, false, cond, _&&_}
 use Prim.Native.Nat.{ℕ, suc, _+_, _-_, _*_, _^_, _≤_, _<_, min}
 use native.Mathlib.Decide.{decLt}
 use native.Mathlib.Nat.{lt-of-lt-of-le}
@@ -16,10 +16,8 @@ use lib.ListN.{length, getD}
 use lib.Signed.{mag}
 use mir.Syntax.{w32}
 use mir.Val.{toZ, ofZ}
-use Rattle.signed.specs.Level.{pick, both}
 use Rattle.signed.specs.Bound.{back-32, below-read, mag-add}
-use Rattle.alloc.specs.Alloc.{at}
-use Rattle.alloc.specs.Delta.{passed, deltaOf, deltaIn, deltaSum}
+use Rattle.alloc.specs.Allocation.{at, passed, deltaOf, deltaIn, deltaSum}
 use Rattle.alloc.proofs.Filled.{cleared}
 use Rattle.alloc.proofs.deltas.Statement.{statement}
 use Rattle.alloc.proofs.deltas.Tie as tie
@@ -45,11 +43,11 @@ cut last band h = by (decLt band last)
     by (no p) = le-ltb band (min last 50) (omega arith) ∙ sym (le-ltb band last (omega arith))
 
 -- to add within a range is to add what is 0 outside
-added : (t : Bool) (x d : ℤ) → pick t (x +ℤ d) x ≡ x +ℤ pick t d (pos 0)
+added : (t : Bool) (x d : ℤ) → cond t (x +ℤ d) x ≡ x +ℤ cond t d (pos 0)
 added true x d = refl
 added false x d = sym (+ℤ-idr x)
 
-grown : (t : Bool) (x d : ℤ) {m n : ℕ} → mag x < m → mag d < n → mag (pick t (x +ℤ d) x) < m + n
+grown : (t : Bool) (x d : ℤ) {m n : ℕ} → mag x < m → mag d < n → mag (cond t (x +ℤ d) x) < m + n
 grown true x d p q = mag-add x d p q
 grown false x d p q = omega arith
 
@@ -86,9 +84,9 @@ module _ (c : tie.After-add-delta Inv-loop μ-loop) (band : ℕ) where
   before = c .before
 
   abbrev inside : Bool
-  inside = both (leb (first before) band) (ltb band (before .before .before .least .result))
+  inside = leb (first before) band && ltb band (before .before .before .least .result)
 
-  now-is : at (c .add-delta .last .0) band ≡ pick inside (at (turn before .loop .out) band +ℤ toZ w32 (ofZ w32 (before .delta-of .result))) (at (turn before .loop .out) band)
+  now-is : at (c .add-delta .last .0) band ≡ cond inside (at (turn before .loop .out) band +ℤ toZ w32 (ofZ w32 (before .delta-of .result))) (at (turn before .loop .out) band)
   now-is = c .add-delta .ensures .entries band
 
   one-more : band < 50 → at (c .add-delta .last .0) band ≡ deltaSum (segments before) band (suc (n before))
@@ -97,7 +95,7 @@ module _ (c : tie.After-add-delta Inv-loop μ-loop) (band : ℕ) where
       let to : ltb band (before .before .before .least .result) ≡ ltb band (last before) = ap (ltb band) (before .before .before .least .ensures) ∙ cut (last before) band h in
       now-is ∙ added inside (at (turn before .loop .out) band) (toZ w32 (ofZ w32 (before .delta-of .result)))
       ∙ ap₂ _+ℤ_ (turn before .loop .inv .4 band h)
-      (ap₂ (λ (t : Bool) (d : ℤ). pick t d (pos 0)) (ap₂ both (ap (λ (k : ℕ). leb k band) (first-is before)) (to ∙ ap (ltb band) (last-is before))) (delta-is before))
+      (ap₂ (λ (t : Bool) (d : ℤ). cond t d (pos 0)) (ap₂ _&&_ (ap (λ (k : ℕ). leb k band) (first-is before)) (to ∙ ap (ltb band) (last-is before))) (delta-is before))
 
   more-mag : mag (at (c .add-delta .last .0) band) < 1 + 2 ^ 16 * suc (n before)
   more-mag =

@@ -5,8 +5,8 @@ use Prim.Native.Nat.{ℕ, suc, _+_, _-_, _≤_, _<_, min, max}
 use native.Mathlib.Omega.{arith}
 use borrow.Author.Needs.{needs}
 use lib.IntN.{ℤ}
-use Rattle.alloc.specs.Alloc.{at}
-use Rattle.alloc.specs.Excite.{leakAfter, exciteAt, fallAt}
+use Rattle.alloc.specs.Allocation.{at}
+use Rattle.alloc.specs.Leaks.{leakAfter, exciteAt, fallAt}
 use Rattle.alloc.specs.declared.Leak.{Leak}
 use Rattle.alloc.proofs.Leaks.{after-bounded, high-after, leak-join}
 use Rattle.alloc.proofs.Filled.{fills-same, fills-join}

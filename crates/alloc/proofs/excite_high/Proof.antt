@@ -8,10 +8,11 @@ use lib.IntN.{ℤ, pos}
 use mir.Syntax.{w32}
 use mir.Val.{toZ, ofZ}
 use Rattle.signed.specs.Bound.{Below, back-32, below-more, below-lit, below-read}
-use Rattle.alloc.specs.Alloc.{at}
-use Rattle.alloc.specs.Excite.{Bounded, fallAfter, fallAt}
-use Rattle.alloc.specs.declared.Leak.{Leak}
+use Rattle.alloc.specs.Allocation.{at}
+use Rattle.alloc.specs.Sound.{Bounded}
 use Rattle.alloc.specs.Fills.{Fills}
+use Rattle.alloc.specs.Leaks.{fallAfter, fallAt}
+use Rattle.alloc.specs.declared.Leak.{Leak}
 use Rattle.alloc.proofs.Leaks.{high-bounded, high-below}
 use Rattle.alloc.proofs.Filled.{fills-none, fills-set}
 use Rattle.alloc.proofs.excite_high.Statement.{statement}

@@ -7,14 +7,14 @@ use lib.IntN.{pos}
 use mir.Syntax.{w32}
 use mir.Val.{toZ, ofZ}
 use Rattle.signed.specs.Bound.{back-16, back-32}
-use Rattle.alloc.specs.Alloc.{level, levelAt}
+use Rattle.alloc.specs.Allocation.{psdOf, psdAt}
 use Rattle.alloc.specs.Fills.{Fills}
 use Rattle.alloc.proofs.Filled.{fills-none, fills-set}
 use Rattle.alloc.proofs.narrow_levels.Statement.{statement}
 use Rattle.alloc.proofs.narrow_levels.Tie as tie
 
 abbrev Inv-loop : tie.InvT-loop
-Inv-loop out₀ exponents first last band₀ out band = (first ≤ band) × (band ≤ last) × Fills (pos 0) first band (levelAt exponents) out₀ out
+Inv-loop out₀ exponents first last band₀ out band = (first ≤ band) × (band ≤ last) × Fills (pos 0) first band (psdAt exponents) out₀ out
 
 abbrev μ-loop : tie.MeasureT-loop
 μ-loop out₀ exponents first last band₀ out band = last - band
@@ -36,7 +36,7 @@ narrow-levels-spec =
     (λ c.
     let s = c .before .before .before .before in
     let at = c .before .before .before .loop in
-    let stored : toZ w32 (ofZ w32 (c .level .result)) ≡ levelAt (s .args .exponents .now) (at .band) =
-    back-32 _ (c .level .ok) ∙ c .level .ensures ∙ ap level (back-16 _ (c .before .level-arg .given)) in
+    let stored : toZ w32 (ofZ w32 (c .level .result)) ≡ psdAt (s .args .exponents .now) (at .band) =
+    back-32 _ (c .level .ok) ∙ c .level .ensures ∙ ap psdOf (back-16 _ (c .before .level-arg .given)) in
     (search needs, search needs, fills-set _ _ _ _ (at .out) (at .band) _ (omega arith) (omega (arith, at .inv .2 .long)) stored (at .inv .2)))
     (λ c. let end : c .before .loop .band ≡ c .before .before .args .last = omega arith in rw end at (c .before .loop .inv .2)))

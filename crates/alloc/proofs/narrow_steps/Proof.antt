@@ -5,7 +5,7 @@ use native.Mathlib.Omega.{arith}
 use borrow.Author.Needs.{needs}
 use lib.IntN.{pos}
 use Rattle.signed.specs.Bound.{back-16}
-use Rattle.alloc.specs.Alloc.{at}
+use Rattle.alloc.specs.Allocation.{at}
 use Rattle.alloc.specs.Fills.{Fills}
 use Rattle.alloc.proofs.Filled.{fills-none, fills-set}
 use Rattle.alloc.proofs.narrow_steps.Statement.{statement}

@@ -9,7 +9,7 @@ use mir.Syntax.{w32}
 use mir.Val.{toZ, ofZ}
 use mir.ValLaws.{toZ-ofZ}
 use Rattle.signed.specs.Bound.{Below, back-32, below-is, below-more, below-read}
-use Rattle.alloc.specs.Alloc.{logadd}
+use Rattle.alloc.specs.Allocation.{logadd}
 use Rattle.alloc.specs.Steps.{relativeAt}
 use Rattle.alloc.proofs.Bounded.{logadd-below, relative-below}
 use Rattle.alloc.proofs.plus_three.Statement.{statement}

@@ -7,7 +7,7 @@ use native.Mathlib.Omega.{arith}
 use borrow.Author.Needs.{needs}
 use lib.IntN.{ℤ, pos}
 use Rattle.signed.specs.Bound.{back-16}
-use Rattle.alloc.specs.Alloc.{at, bandOf, startOf}
+use Rattle.alloc.specs.Allocation.{at, bandOf, startOf}
 use Rattle.alloc.specs.Fills.{Fills}
 use Rattle.alloc.proofs.Bands.{start-at, start-after, start-mono, last-start, band-at}
 use Rattle.alloc.proofs.Filled.{fills-none, fills-moved, fills-join}

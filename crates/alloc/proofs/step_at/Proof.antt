@@ -8,7 +8,7 @@ use mir.Val.{toZ, ofZ}
 use mir.ValLaws.{toZ-ofZ}
 use Rattle.signed.specs.Level.{maxZ}
 use Rattle.signed.specs.Bound.{Below, back-16, back-32, fits-32, below-is, below-more, below-max, below-read, below-add}
-use Rattle.alloc.specs.Alloc.{overKnee, threshold}
+use Rattle.alloc.specs.Allocation.{overKnee, threshold}
 use Rattle.alloc.specs.Steps.{stepOf, stepAt}
 use Rattle.alloc.proofs.Bounded.{knee-below, threshold-below}
 use Rattle.alloc.proofs.step_at.Statement.{statement}

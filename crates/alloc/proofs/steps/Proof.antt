@@ -10,7 +10,7 @@ use mir.Val.{toZ}
 use mir.ValLaws.{toZ-ofZ}
 use Rattle.signed.specs.Bound.{back-16, back-32, below-read}
 use Rattle.tables.proofs.Rule.{hearing-at-most}
-use Rattle.alloc.specs.Alloc.{at}
+use Rattle.alloc.specs.Allocation.{at}
 use Rattle.alloc.specs.Fills.{Fills}
 use Rattle.alloc.specs.Steps.{stepBy}
 use Rattle.alloc.proofs.Filled.{fills-none, fills-set, fills-fresh}

@@ -8,7 +8,7 @@ use borrow.Author.Needs.{needs}
 use borrow.Author.Tests.{lt-ltb, le-ltb}
 use lib.Dec.{lit≤}
 use lib.IntN.{ℤ, pos}
-use Rattle.alloc.specs.Alloc.{at, bandOf, startOf}
+use Rattle.alloc.specs.Allocation.{at, bandOf, startOf}
 use Rattle.alloc.specs.Fills.{Fills}
 use Rattle.alloc.proofs.Bands.{width, narrow, band-at, band-of, start-after, start-mono, last-start}
 use Rattle.alloc.proofs.Filled.{filled-in, fills-moved, fills-join}

@@ -6,7 +6,7 @@ use borrow.Author.Needs.{needs}
 use lib.IntN.{pos}
 use Rattle.signed.specs.Bound.{back-32}
 use Rattle.tables.specs.Tables.{logAdd}
-use Rattle.alloc.specs.Alloc.{levelAt, startOf, endOf, bandLevel}
+use Rattle.alloc.specs.Allocation.{psdAt, startOf, endOf, bandPsd}
 use Rattle.alloc.specs.Fills.{Fills}
 use Rattle.alloc.proofs.Bands.{start-mono, end-mono}
 use Rattle.alloc.proofs.Filled.{fills-none, fills-set}
@@ -14,7 +14,7 @@ use Rattle.alloc.proofs.wide_levels.Statement.{statement}
 use Rattle.alloc.proofs.wide_levels.Tie as tie
 
 abbrev Inv-loop : tie.InvT-loop
-Inv-loop out₀ ends exponents start end first last adds band₀ out band = (first ≤ band) × (band ≤ last) × (adds ≡ logAdd) × Fills (pos 0) first band (bandLevel (levelAt exponents) start end) out₀ out
+Inv-loop out₀ ends exponents start end first last adds band₀ out band = (first ≤ band) × (band ≤ last) × (adds ≡ logAdd) × Fills (pos 0) first band (bandPsd (psdAt exponents) start end) out₀ out
 
 abbrev μ-loop : tie.MeasureT-loop
 μ-loop out₀ ends exponents start end first last adds band₀ out band = last - band

@@ -1,7 +1,7 @@
 -- `alloc_c::exponents_fit` meets its contract. The loop's invariant: what was found so far and the exponents from `bin` on decide together.
 -- Assumes nothing.
 use mathlib.Core.Path.{_≡_, _∙_, refl, sym, ap}
-use mathlib.Core.Bool.{Bool, true, false}
+use mathlib.Core.Bool.{Bool, true, false, _&&_}
 use mathlib.Core.List.{List, [], _∷_}
 use Prim.Native.Nat.{ℕ, suc, _+_, _-_, _≤_, _<_}
 use native.Mathlib.Omega.{arith}
@@ -9,33 +9,32 @@ use borrow.Author.Needs.{needs}
 use lib.IntN.{ℤ}
 use lib.ListN.{length, drop, drop-of-length-le}
 use lib.Seq.{drop-cons}
-use Rattle.signed.specs.Level.{both}
 use Rattle.signed.specs.Bound.{back-16}
-use Rattle.alloc.specs.Alloc.{at}
+use Rattle.alloc.specs.Allocation.{at}
 use Rattle.alloc_c.specs.Accepted.{isExponent, exponentsFit}
 use Rattle.alloc_c.proofs.exponents_fit.Statement.{statement}
 use Rattle.alloc_c.proofs.exponents_fit.Tie as tie
 
 abbrev Inv-loop : tie.InvT-loop
-Inv-loop exponents fit₀ bin₀ fit bin = (bin ≤ 256) × (exponentsFit exponents ≡ both fit (exponentsFit (drop bin exponents)))
+Inv-loop exponents fit₀ bin₀ fit bin = (bin ≤ 256) × (exponentsFit exponents ≡ (fit && exponentsFit (drop bin exponents)))
 
 abbrev μ-loop : tie.MeasureT-loop
 μ-loop exponents fit₀ bin₀ fit bin = 256 - bin
 
-both-both : (a b c : Bool) → both a (both b c) ≡ both (both a b) c
+both-both : (a b c : Bool) → (a && (b && c)) ≡ ((a && b) && c)
 both-both true b c = refl
 both-both false b c = refl
 
-both-yes : (a : Bool) → both a true ≡ a
+both-yes : (a : Bool) → (a && true) ≡ a
 both-yes true = refl
 both-yes false = refl
 
 -- one exponent more
-one-more : (es : List ℤ) (bin : ℕ) (fit t : Bool) → bin < length es → t ≡ both fit (isExponent (at es bin)) → both fit (exponentsFit (drop bin es)) ≡ both t (exponentsFit (drop (bin + 1) es))
+one-more : (es : List ℤ) (bin : ℕ) (fit t : Bool) → bin < length es → t ≡ (fit && isExponent (at es bin)) → (fit && exponentsFit (drop bin es)) ≡ (t && (exponentsFit (drop (bin + 1) es)))
 unfolding exponentsFit
 one-more es bin fit t h e =
     let next : bin + 1 ≡ suc bin = omega arith in
-    let here : exponentsFit (drop bin es) ≡ both (isExponent (at es bin)) (exponentsFit (drop (suc bin) es)) = ap exponentsFit (drop-cons es bin _ h) in
+    let here : exponentsFit (drop bin es) ≡ (isExponent (at es bin) && exponentsFit (drop (suc bin) es)) = ap exponentsFit (drop-cons es bin _ h) in
     rw (e, next, here) (both-both fit (isExponent (at es bin)) (exponentsFit (drop (suc bin) es)))
 
 pub exponents-fit-spec : {M : Type 1} → statement M
@@ -59,11 +58,11 @@ exponents-fit-spec =
     let bin = turn .loop .bin in
     let long : length es ≡ 256 = search needs in
     let e = at es bin in
-    let is : c .both .result ≡ both (turn .loop .fit) (isExponent e) = c .both .ensures ∙ ap (both (turn .loop .fit)) (rw (back-16 e (test .before .is-exponent-arg .given)) at (test .is-exponent .ensures)) in
+    let is : c .both .result ≡ (turn .loop .fit && isExponent e) = c .both .ensures ∙ ap (_&&_ (turn .loop .fit)) (rw (back-16 e (test .before .is-exponent-arg .given)) at (test .is-exponent .ensures)) in
     (omega arith, turn .loop .inv .1 ∙ one-more es bin (turn .loop .fit) (c .both .result) (omega (arith, long)) is))
     (λ c.
     let turn = c .before in
     let es = turn .before .args .t1 in
     let long : length es ≡ 256 = search needs in
     let none : drop (turn .loop .bin) es ≡ [] = drop-of-length-le es {i = turn .loop .bin} (omega arith) in
-    sym (turn .loop .inv .1 ∙ ap (λ (l : List ℤ). both (turn .loop .fit) (exponentsFit l)) none ∙ both-yes (turn .loop .fit))))
+    sym (turn .loop .inv .1 ∙ ap (λ (l : List ℤ). (turn .loop .fit && exponentsFit l)) none ∙ both-yes (turn .loop .fit))))

@@ -1,6 +1,6 @@
 -- `alloc_c::ferrysprig_allocate` meets its contract: what the tests tell is what `alloc::allocate` asks for. Assumes nothing.
 use mathlib.Core.Path.{_≡_, _∙_, refl, sym, subst}
-use mathlib.Core.Bool.{Bool, true, false}
+use mathlib.Core.Bool.{Bool, true, false, _&&_}
 use mathlib.Core.List.{List, [], _∷_}
 use Prim.Native.Nat.{ℕ, zero, suc, _≤_, _<_}
 use native.Mathlib.Omega.{arith}
@@ -9,9 +9,8 @@ use borrow.Author.Tests.{not-true, not-false, leb-true}
 use lib.Dec.{T, leb}
 use lib.IntN.{ℤ, pos}
 use lib.Signed.{leZ}
-use Rattle.signed.specs.Level.{both}
-use Rattle.signed.specs.Bound.{back-32, cast-32, below-more, below-u16, below-lit, below-cast, below-is, below-read}
-use Rattle.alloc.specs.Steps.{Exponents}
+use Rattle.signed.specs.Bound.{back-32, cast-32, below-more, below-u16, below-cast, below-is, below-read}
+use Rattle.alloc.specs.Sound.{Exponents}
 use Rattle.alloc.proofs.Offset.{snr-below}
 use Rattle.alloc_c.specs.Accepted.{startFits, rangeFits, codesFit, isExponent, exponentsFit, answer}
 use Rattle.alloc_c.proofs.ferrysprig_allocate.Statement.{statement}
@@ -22,7 +21,7 @@ use Rattle.alloc_c.proofs.ferrysprig_allocate.Tie as tie
 true-is : {t : Bool} → t ≡ true → T t
 true-is e = subst T (sym e) tt
 
-both-is : (a b : Bool) → both a b ≡ true → (a ≡ true) × (b ≡ true)
+both-is : (a b : Bool) → (a && b) ≡ true → (a ≡ true) × (b ≡ true)
 both-is true b e = (refl, e)
 both-is false b e = absurd (true-is e)
 
@@ -37,8 +36,8 @@ pub record Codes (fscod csnroffst fsnroffst count : ℕ) : Type 0 where
 
 codes : (fscod csnroffst fsnroffst count : ℕ) → codesFit fscod csnroffst fsnroffst count ≡ true → Codes fscod csnroffst fsnroffst count
 codes fscod csnroffst fsnroffst count e =
-    let first = both-is (leb fscod 2) (both (leb csnroffst 63) (both (leb fsnroffst 15) (leb count 8))) e in
-    let second = both-is (leb csnroffst 63) (both (leb fsnroffst 15) (leb count 8)) (first .1) in
+    let first = both-is (leb fscod 2) (leb csnroffst 63 && (leb fsnroffst 15 && leb count 8)) e in
+    let second = both-is (leb csnroffst 63) (leb fsnroffst 15 && leb count 8) (first .1) in
     let third = both-is (leb fsnroffst 15) (leb count 8) (second .1) in
     record {
       rate = leb-true fscod 2 (first .0);
@@ -74,15 +73,15 @@ ferrysprig-allocate-spec =
     (tie.spec
     (λ c κs. search needs)
     (λ c.
-    let no = sym (c .before .range-fits .ensures) ∙ not-true _ (c .if1 .taken) in rw no (refl, λ bin. refl))
+    let no = sym (c .before .range-fits .ensures) ∙ not-true _ (c .if1 .taken) in rw no (refl, refl))
     (λ c κs. search needs)
     (λ c.
     let no = sym (c .before .codes-fit .ensures) ∙ not-true _ (c .if2 .taken) in
-    rw (range (c .before .before), no) (refl, λ bin. refl))
+    rw (range (c .before .before), no) (refl, refl))
     (λ c κs. search needs)
     (λ c.
     let no = sym (c .before .exponents-fit .ensures) ∙ not-true _ (c .if3 .taken) in
-    rw (range (c .before .before .before .before .before), numbers (c .before .before .before), no) (refl, λ bin. refl))
+    rw (range (c .before .before .before .before .before), numbers (c .before .before .before), no) (refl, refl))
     (λ c κs. search needs)
     (λ c κs. search needs)
     (λ c κs. search needs)
@@ -91,24 +90,23 @@ ferrysprig-allocate-spec =
     (λ c. search needs)
     (λ c κs. search needs)
     (λ c κs.
-    let small = told (c .before .before .before .before .before .before .before .before) in (omega (arith, small .coarse), omega (arith, small .fine)))
+    let small = told (c .before .before .before .before .before .before .before .before .before) in (omega (arith, small .coarse), omega (arith, small .fine)))
     (λ c κs. search needs)
     (λ c κs.
-    let e3 = c .before .before .before .before .before .before .before in
+    let snr = c .before in
+    let e3 = snr .before .before .before .before .before .before .before in
     let e2 = e3 .before .before .before in
     let e1 = e2 .before .before in
     let s = e1 .before .before in
-    let small = told e2 in
-    let snr = c .before .snr-offset in (
-      range-end (s .args .start) (s .args .end) (range e1),
-      omega (arith, small .rate),
-      small .segments,
-      below-read (below-is (snr .ensures) (snr-below (s .args .csnroffst) (s .args .fsnroffst) (omega (arith, small .coarse)) (omega (arith, small .fine)))),
-      below-read (c .floor .ensures .1),
+    let small = told e2 in (
       record {
-        fast = below-cast (below-more (below-u16 (s .args .fastleak) (omega arith)) tt);
-        slow = below-cast (below-more (below-u16 (s .args .slowleak) (omega arith)) tt);
-        low = below-lit tt;
+        end = range-end (s .args .start) (s .args .end) (range e1);
+        fscod = omega (arith, small .rate);
+        count = small .segments;
+        fastleak = below-cast (below-more (below-u16 (s .args .fastleak) (omega arith)) tt);
+        slowleak = below-cast (below-more (below-u16 (s .args .slowleak) (omega arith)) tt);
+        snroffset = below-read (below-is (snr .snr-offset .ensures) (snr-below (s .args .csnroffst) (s .args .fsnroffst) (omega (arith, small .coarse)) (omega (arith, small .fine))));
+        floor = below-read (c .floor .ensures .1);
       },
       fitting (s .args .exponents .now) (all-fit e3),
     ))
@@ -116,22 +114,22 @@ ferrysprig-allocate-spec =
     let floor = c .before in
     let snr = floor .before in
     let knee = snr .before in
-    let e3 = knee .before .before .before .before .before in
+    let gain = knee .before .before in
+    let e3 = gain .before .before .before .before in
     let e2 = e3 .before .before .before in
     let e1 = e2 .before .before in
     let s = e1 .before .before in
     rw (range e1, numbers e2, all-fit e3) (
       refl,
-      λ bin.
-          rw (
-            sym (knee .before .before .before .before .fast-decay .ensures),
-            sym (knee .before .before .before .slow-decay .ensures),
-            sym (knee .before .before .fast-gain .ensures),
-            sym (knee .before .slow-gain .ensures),
-            sym (knee .db-knee .ensures),
-            sym (back-32 _ (snr .snr-offset .ok) ∙ snr .snr-offset .ensures),
-            sym (back-32 _ (floor .floor .ok) ∙ floor .floor .ensures .0),
-            sym (cast-32 (s .args .fastleak) (omega arith)),
-            sym (cast-32 (s .args .slowleak) (omega arith)),
-          ) (c .allocate .ensures bin),
+      rw (
+        sym (gain .before .before .before .fast-decay .ensures),
+        sym (gain .before .before .slow-decay .ensures),
+        sym (gain .before .fast-gain .ensures),
+        sym (gain .slow-gain .ensures),
+        sym (knee .db-knee .ensures),
+        sym (back-32 _ (snr .snr-offset .ok) ∙ snr .snr-offset .ensures),
+        sym (back-32 _ (floor .floor .ok) ∙ floor .floor .ensures .0),
+        sym (cast-32 (s .args .fastleak) (omega arith)),
+        sym (cast-32 (s .args .slowleak) (omega arith)),
+      ) (c .allocate .ensures),
     )))

@@ -1,5 +1,5 @@
 -- `exponents::steps` meets its contract: one test, computed over the whole table. Assumes nothing.
-use mathlib.Core.Bool.{Bool, true}
+use mathlib.Core.Bool.{Bool, true, _&&_}
 use mathlib.Core.List.{List, [], _∷_}
 use mathlib.Core.Path.{_≡_, refl, ap, _∙_}
 use Prim.Native.Nat.{ℕ, zero, suc, _+_, _*_, _/_, _%_, _<_}
@@ -7,7 +7,6 @@ use native.Mathlib.Nat.{not-suc-le-zero, le-of-suc-le-suc, add-zero, zero-add, a
 use lib.Dec.{T, eqb}
 use lib.ListN.{length, getD}
 use borrow.Author.Tests.{eqb-true}
-use Rattle.signed.specs.Level.{both}
 use Rattle.tables.proofs.Rules.{both-left, both-right}
 use Rattle.exponents.specs.AtHand.{Steps}
 use Rattle.exponents.proofs.steps.Statement.{statement}
@@ -18,7 +17,7 @@ entry group = let x = group / 25 in let y = x + group % 25 / 5 in let z = y + gr
 
 abbrev right : ℕ → List ℕ → Bool
 right group [] = true
-right group (d ∷ ds) = both (eqb d (entry group)) (right (suc group) ds)
+right group (d ∷ ds) = eqb d (entry group) && right (suc group) ds
 
 true-of : (b : Bool) → T b → b ≡ true
 true-of true t = λ i. true

@@ -12,7 +12,7 @@ use borrow.Author.Needs.{needs}
 use mir.Syntax.{w16}
 use mir.Val.{toZ, ofZ}
 use Rattle.signed.specs.Bound.{back-16}
-use Rattle.alloc.specs.Alloc.{at}
+use Rattle.alloc.specs.Allocation.{at}
 use Rattle.alloc.specs.Steps.{Address, bapAt}
 use Rattle.alloc.proofs.Bounded.{natural}
 use Rattle.mantissas.specs.Counts.{pointersAt, noCounts, counted, packed, weight}

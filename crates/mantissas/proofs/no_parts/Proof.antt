@@ -1,7 +1,7 @@
 -- `mantissas::no_parts` meets its contract, by computing. Assumes nothing.
 use mathlib.Core.Path.{refl}
 use borrow.Author.Needs.{needs}
-use Rattle.alloc.specs.Listed.{from}
+use Rattle.alloc.specs.Allocation.{from}
 use Rattle.blocks.proofs.Entries.{every-replicate}
 use Rattle.mantissas.specs.Counts.{SoundPart, noPart}
 use Rattle.mantissas.proofs.no_parts.Statement.{statement}

@@ -1,7 +1,7 @@
 -- Values on which a slip would show, computed from the definitions. (Those of docs/FORMAT.md stand in `ac3/specs/Values`.) Assumes nothing.
 use mathlib.Core.Path.{_≡_, refl}
 use lib.IntN.{pos}
-use Rattle.alloc.specs.Alloc.{lowcomp, kept, addressOf}
+use Rattle.alloc.specs.Allocation.{lowcomp, kept, addressOf}
 
 -- a rise by exactly 256 sets the compensation, and one by more does not
 pub compensations : (lowcomp (pos 0) (pos 0) (pos 256) 6 ≡ pos 384) × (lowcomp (pos 0) (pos 0) (pos 384) 6 ≡ pos 0)

@@ -13,4 +13,4 @@ ferrysprig-burst-read-spec =
     (λ c κs. search needs)  -- burst-numbers-requires
     (λ c. search needs)  -- same-length
     (λ c. search needs)  -- same-length-2
-    (λ c. rw (c .burst-numbers .ensures) (ap burstTold (c .before .before .before .burst-read .ensures))))  -- returns
+    (λ c. rw (c .burst-numbers .ensures) (ap burstTold (c .before .before .before .before .burst-read .ensures))))  -- returns

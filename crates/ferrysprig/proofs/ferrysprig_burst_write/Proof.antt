@@ -13,4 +13,4 @@ ferrysprig-burst-write-spec =
     (λ c κs. search needs)  -- burst-numbers-requires
     (λ c. search needs)  -- same-length
     (λ c. search needs)  -- same-length-2
-    (λ c. rw (c .burst-numbers .ensures) (ap burstTold (c .before .before .before .burst-write .ensures))))  -- returns
+    (λ c. rw (c .burst-numbers .ensures) (ap burstTold (c .before .before .before .before .burst-write .ensures))))  -- returns

@@ -33,6 +33,7 @@
 //!
 //! No input makes a function of this crate panic. They do where the linked archive is not Ferrysprig's and gives numbers without meaning.
 
+pub mod burst;
 mod names;
 mod raw;
 

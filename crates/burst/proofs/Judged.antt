@@ -76,7 +76,7 @@ module _ (lent : List ℤ) (out : List ℕ) (a : parse.Answer) (after : List ℤ
   w-room : a .refusal ≡ 0 → length out < burstBytes → Writes (record { refusal = 28; rows = a .rows; bytes = 0 }) out
   w-room h short = rw (eq-eqb (a .refusal) 0 h, lt-ltb (length out) burstBytes short)
 
-  w-done : a .refusal ≡ 0 → burstBytes ≤ length out
+  pub w-done : a .refusal ≡ 0 → burstBytes ≤ length out
       → let burst = burstOf b (frameIn a s) in
       Writes (record { refusal = 0; rows = a .rows; bytes = length burst }) (burst ++ drop (length burst) out)
   w-done h long = rw (eq-eqb (a .refusal) 0 h, le-ltb (length out) burstBytes long)
@@ -150,7 +150,7 @@ module _ (lent : List ℤ) (out : List ℕ) (a : parse.Answer) (after : List ℤ
               r-room : ltb (length out) bytes ≡ true → Reads (record { refusal = 28; rows = a .rows; bytes = 0 }) after out
               r-room h = rw (size, words, ok, long, zero-after, mode, h)
 
-              r-done : ltb (length out) bytes ≡ false
+              pub r-done : ltb (length out) bytes ≡ false
                   → let frame = frameIn a (drop headBytes burst) in
                   Reads (record { refusal = 0; rows = a .rows; bytes = length frame }) after (frame ++ drop (length frame) out)
               r-done h = rw (size, words, ok, long, zero-after, mode, h)

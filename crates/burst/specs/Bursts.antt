@@ -1,8 +1,8 @@
 -- What holds between writing and reading, for a caller who holds captures, bursts and rooms: each takes back what the other did, and two frames
 -- never give one burst.
-use mathlib.Core.List.{List, _++_}
+use mathlib.Core.List.{List, [], _++_}
 use mathlib.Core.Path.{_≡_}
-use Prim.Native.Nat.{ℕ, _/_, _≤_, _<_}
+use Prim.Native.Nat.{ℕ, _≤_, _<_}
 use lib.IntN.{ℤ}
 use lib.ListN.{length, getD, take, drop}
 use Rattle.ac3.specs.Promise.{Call, roomFor}
@@ -30,17 +30,17 @@ abbrev pub Bytes : List ℕ → Type 0
 Bytes s = (i : ℕ) → getD s i 0 < 256
 
 -- a room for as many rows
-abbrev pub AsManyRows : Call → List ℤ → Type 0
-AsManyRows c rows = roomFor (record { capture = c .capture; place = c .place; room = rows }) ≡ roomFor c
+abbrev pub AsManyRows : (lent rows : List ℤ) → Type 0
+AsManyRows lent rows = roomFor (record { capture = []; place = 0; room = rows }) ≡ roomFor (record { capture = []; place = 0; room = lent })
 
 pub record Inverse : Type 0 where
   -- reading what was written returns the frame
   pub read-back : (c : Call) (out : List ℕ) → wrote c out .0 .refusal ≡ 0
-      → (rows : List ℤ) (room : List ℕ) → AsManyRows c rows → length (frameOf c) ≤ length room
+      → (rows : List ℤ) (room : List ℕ) → AsManyRows (c .room) rows → length (frameOf c) ≤ length room
       → Gives (read (bytesOf (wrote c out)) rows room) (frameOf c) room
   -- writing what was read returns the burst
   pub write-back : (burst : List ℕ) (rows : List ℤ) (out : List ℕ) → Bytes burst → read burst rows out .0 .refusal ≡ 0
-      → (again : List ℤ) (room : List ℕ) → length again / 8 ≡ length rows / 8 → burstBytes ≤ length room
+      → (again : List ℤ) (room : List ℕ) → AsManyRows rows again → burstBytes ≤ length room
       → Gives (written (bytesOf (read burst rows out)) 0 again room) burst room
   -- two frames never give one burst
   pub apart : (c d : Call) (out room : List ℕ) → wrote c out .0 .refusal ≡ 0 → wrote d room .0 .refusal ≡ 0

@@ -153,6 +153,38 @@ void ferrysprig_parse(const uint8_t *capture, size_t capture_len, size_t place, 
    equals another if both start at most at the ends. x and y may overlap or be the same. */
 bool ferrysprig_range_eq(const uint8_t *x, size_t x_len, size_t a, const uint8_t *y, size_t y_len, size_t b, size_t n);
 
+/* ---- IEC 61937 data bursts (docs/FORMAT.md has them word by word) */
+
+/* The bytes of a burst. */
+#define FERRYSPRIG_BURST_BYTES 6144
+
+/* The numbers of an answer about a burst. */
+enum {
+    FERRYSPRIG_BURST_REFUSAL = 0, /* 0: done; 1 to 20: the frame's own; 28, 30 to 34: below */
+    FERRYSPRIG_BURST_ROWS = 1,    /* the rows that parsing left written; 0 at 30 and 31, which come before it */
+    FERRYSPRIG_BURST_WRITTEN = 2  /* the bytes written to the front of `out`; 0 on a refusal */
+};
+#define FERRYSPRIG_BURST_ANSWER 3
+
+enum {
+    FERRYSPRIG_NO_ROOM = 28,      /* `out` is too short */
+    FERRYSPRIG_NOT_A_BURST = 30,  /* the burst is not 6,144 bytes */
+    FERRYSPRIG_WRONG_WORDS = 31,  /* the first three words are wrong outside bits 8 to 10 of the third */
+    FERRYSPRIG_WRONG_LENGTH = 32, /* the fourth word is not the frame's length in bits */
+    FERRYSPRIG_NOT_ZERO = 33,     /* a byte after the frame is not 0 */
+    FERRYSPRIG_OTHER_BSMOD = 34   /* bits 8 to 10 of the third word are not the frame's bsmod */
+};
+
+/* Writes the frame at byte `place` of `capture` as one burst: 6,144 bytes to the front of `out`. The frame is parsed into `rows` as by ferrysprig_parse;
+   a refusal writes nothing to `out`. `rows`, `out` and `answer` overlap nothing. */
+void ferrysprig_burst_write(const uint8_t *capture, size_t capture_len, size_t place, int32_t *rows, size_t rows_len, uint8_t *out, size_t out_len,
+                            int32_t answer[FERRYSPRIG_BURST_ANSWER]);
+
+/* Writes the frame of a burst to the front of `out`. The refusals are given in the order 30, 31, the frame's own, 32, 33, 34, 28; a refusal writes
+   nothing to `out`. `rows`, `out` and `answer` overlap nothing. */
+void ferrysprig_burst_read(const uint8_t *burst, size_t burst_len, int32_t *rows, size_t rows_len, uint8_t *out, size_t out_len,
+                           int32_t answer[FERRYSPRIG_BURST_ANSWER]);
+
 #ifdef __cplusplus
 }
 #endif

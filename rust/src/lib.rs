@@ -91,6 +91,7 @@
 
 #![warn(missing_docs)]
 
+pub mod burst;
 mod field;
 mod frame;
 mod layout;

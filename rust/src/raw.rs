@@ -2,6 +2,9 @@
 
 use crate::layout::{Answer, ANSWER_NUMBERS, ROWS, ROW_NUMBERS};
 
+/// The numbers of an answer about a burst: refusal (0: done), rows that the parse left, bytes written.
+pub const BURST_ANSWER: usize = 3;
+
 extern "C" {
     fn ferrysprig_parse(
         capture: *const u8,
@@ -20,6 +23,25 @@ extern "C" {
         b: usize,
         n: usize,
     ) -> bool;
+    fn ferrysprig_burst_write(
+        capture: *const u8,
+        capture_len: usize,
+        place: usize,
+        rows: *mut i32,
+        rows_len: usize,
+        out: *mut u8,
+        out_len: usize,
+        answer: *mut [i32; BURST_ANSWER],
+    );
+    fn ferrysprig_burst_read(
+        burst: *const u8,
+        burst_len: usize,
+        rows: *mut i32,
+        rows_len: usize,
+        out: *mut u8,
+        out_len: usize,
+        answer: *mut [i32; BURST_ANSWER],
+    );
 }
 
 /// Parses the frame at byte `place` of `capture` into the lent `rows`; the answer, and the rows that it says were written.
@@ -51,4 +73,42 @@ pub fn range_eq(x: &[u8], a: usize, y: &[u8], b: usize, n: usize) -> bool {
     // SAFETY: each pointer and length is that of a slice that lives through the call. The function asks nothing more of its caller, writes
     // nowhere, and keeps no pointer; its answer is C's bool, which is Rust's.
     unsafe { ferrysprig_range_eq(x.as_ptr(), x.len(), a, y.as_ptr(), y.len(), b, n) }
+}
+
+/// Writes the frame at byte `place` of `capture` to the front of `out` as one burst.
+pub fn burst_write(capture: &[u8], place: usize, rows: &mut [i32], out: &mut [u8]) -> [i32; BURST_ANSWER] {
+    let mut answer = [0; BURST_ANSWER];
+    // SAFETY: each pointer and length is that of a slice or an array that lives through the call; `rows`, `out` and `answer` are borrowed mutably,
+    // so nothing else refers to them. The function asks nothing more of its caller, writes only there, and keeps no pointer.
+    unsafe {
+        ferrysprig_burst_write(
+            capture.as_ptr(),
+            capture.len(),
+            place,
+            rows.as_mut_ptr(),
+            rows.len(),
+            out.as_mut_ptr(),
+            out.len(),
+            &mut answer,
+        );
+    }
+    answer
+}
+
+/// Writes the frame of `burst` to the front of `out`.
+pub fn burst_read(burst: &[u8], rows: &mut [i32], out: &mut [u8]) -> [i32; BURST_ANSWER] {
+    let mut answer = [0; BURST_ANSWER];
+    // SAFETY: as of `burst_write`.
+    unsafe {
+        ferrysprig_burst_read(
+            burst.as_ptr(),
+            burst.len(),
+            rows.as_mut_ptr(),
+            rows.len(),
+            out.as_mut_ptr(),
+            out.len(),
+            &mut answer,
+        );
+    }
+    answer
 }

@@ -1,0 +1,16 @@
+-- `ferrysprig::ferrysprig_burst_read` meets its contract: what `burst_read` answers, as numbers. Assumes nothing.
+use mathlib.Core.Path.{ap}
+use borrow.Author.Needs.{needs}
+use Rattle.ferrysprig.specs.Bursts.{burstTold}
+use Rattle.ferrysprig.proofs.ferrysprig_burst_read.Statement.{statement}
+use Rattle.ferrysprig.proofs.ferrysprig_burst_read.Tie as tie
+
+pub ferrysprig-burst-read-spec : {M : Type 1} → statement M
+ferrysprig-burst-read-spec =
+    tie.close
+    (tie.spec
+    (λ c κs. search needs)  -- burst-read-requires
+    (λ c κs. search needs)  -- burst-numbers-requires
+    (λ c. search needs)  -- same-length
+    (λ c. search needs)  -- same-length-2
+    (λ c. rw (c .burst-numbers .ensures) (ap burstTold (c .before .before .before .before .burst-read .ensures))))  -- returns

@@ -71,7 +71,9 @@ impl Refusal {
             32 => Refusal::WrongLength,
             33 => Refusal::NotZero,
             34 => Refusal::OtherBsmod,
-            own => Refusal::Frame(u8::try_from(own).expect("libferrysprig.a gave a refusal without meaning")),
+            own => Refusal::Frame(
+                u8::try_from(own).expect("libferrysprig.a gave a refusal without meaning"),
+            ),
         }
     }
 
@@ -79,7 +81,9 @@ impl Refusal {
     pub fn meaning(self) -> &'static str {
         match self {
             Refusal::NotABurst => "the burst is not 6,144 bytes",
-            Refusal::WrongWords => "the first three words are wrong outside bits 8 to 10 of the third",
+            Refusal::WrongWords => {
+                "the first three words are wrong outside bits 8 to 10 of the third"
+            }
             Refusal::Frame(number) => usize::from(number)
                 .checked_sub(1)
                 .and_then(|n| REFUSALS.get(n).copied())
@@ -142,7 +146,12 @@ pub fn read(burst: &[u8]) -> Result<Vec<u8>, Refusal> {
 /// assert!(out.iter().all(|&byte| byte == 0xAA)); // a refusal writes nothing
 /// assert_eq!(burst::write_into(&frame, 0, &mut rows, &mut out), Ok(6144));
 /// ```
-pub fn write_into(capture: &[u8], place: usize, rows: &mut [i32], out: &mut [u8]) -> Result<usize, Refusal> {
+pub fn write_into(
+    capture: &[u8],
+    place: usize,
+    rows: &mut [i32],
+    out: &mut [u8],
+) -> Result<usize, Refusal> {
     written(raw::burst_write(capture, place, rows, out))
 }
 

@@ -76,7 +76,12 @@ pub fn range_eq(x: &[u8], a: usize, y: &[u8], b: usize, n: usize) -> bool {
 }
 
 /// Writes the frame at byte `place` of `capture` to the front of `out` as one burst.
-pub fn burst_write(capture: &[u8], place: usize, rows: &mut [i32], out: &mut [u8]) -> [i32; BURST_ANSWER] {
+pub fn burst_write(
+    capture: &[u8],
+    place: usize,
+    rows: &mut [i32],
+    out: &mut [u8],
+) -> [i32; BURST_ANSWER] {
     let mut answer = [0; BURST_ANSWER];
     // SAFETY: each pointer and length is that of a slice or an array that lives through the call; `rows`, `out` and `answer` are borrowed mutably,
     // so nothing else refers to them. The function asks nothing more of its caller, writes only there, and keeps no pointer.

@@ -3,3 +3,4 @@ pub mod Framed
 pub mod Judged
 pub mod Words
 pub mod Bursts
+pub mod Few

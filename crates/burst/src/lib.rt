@@ -19,7 +19,7 @@ const HEAD: usize = 8;
 pub struct Answer {
     pub refusal: u8,
     pub rows: usize,
-    pub bytes: usize,
+    pub bytes: u16,
 }
 
 fn refused(refusal: u8, rows: usize) -> Answer
@@ -74,7 +74,7 @@ pub fn burst_write(capture: &[u8], place: usize, rows: &mut [i32], out: &mut [u8
     Answer {
         refusal: 0,
         rows: count,
-        bytes: BURST,
+        bytes: BURST as u16,
     }
 }
 
@@ -151,6 +151,6 @@ pub fn burst_read(burst: &[u8], rows: &mut [i32], out: &mut [u8]) -> Answer
     Answer {
         refusal: 0,
         rows: count,
-        bytes,
+        bytes: header.bytes,
     }
 }

@@ -3,10 +3,9 @@ use mathlib.Core.List.{List, [], _∷_}
 use Prim.Native.Nat.{ℕ}
 use lib.IntN.{ℤ, pos}
 use Rattle.burst.specs.declared.Answer.{Answer}
-use Rattle.ferrysprig.specs.Numbers.{held}
 
 unfoldable pub burstNumbers : Answer → List ℤ
-burstNumbers a = pos (a .refusal) ∷ held (a .rows) ∷ held (a .bytes) ∷ []
+burstNumbers a = pos (a .refusal) ∷ pos (a .rows) ∷ pos (a .bytes) ∷ []
 
 -- the numbers of an answer, and the field room and the output after it
 abbrev pub burstTold : Answer × (List ℤ × List ℕ) → List ℤ × (List ℤ × List ℕ)

@@ -94,9 +94,10 @@ pub extern "C" fn ferrysprig_range_eq(x: &[u8], a: usize, y: &[u8], b: usize, n:
 
 // The three numbers of an answer about a burst.
 fn burst_numbers(a: burst::Answer) -> [i32; 3]
+    requires { ⌜ a .rows ≤ mostRows ⌝ }
     ensures { λ r. ⌜ r ≡ burstNumbers a ⌝ }
 {
-    [wide(a.refusal as u16), held(a.rows), held(a.bytes)]
+    [wide(a.refusal as u16), row_count(a.rows), wide(a.bytes)]
 }
 
 // Writes the frame at a place of a capture as one IEC 61937 burst of 6,144 bytes, and the answer's numbers.

@@ -30,7 +30,7 @@ frame c =
     let opened = parsed .before .before .before in
     let words = sym (opened .opens .ensures) ∙ not-false _ (parsed .before .before .if2 .left) in
     let a = opened .before .before .before .before .args in
-    refused-frame (a .burst .now) (a .rows .now) (a .out .now) (opened .before .if1 .left) words (parsed .parse .ensures) (c .before .if3 .taken) (c .refused3 .ensures)
+    refused-frame (a .burst .now) (a .rows .now) (a .out .now) (opened .before .if1 .left) words (parsed .parse .ensures .0) (c .before .if3 .taken) (c .refused3 .ensures)
 
 length-wrong : tie.Need-returns-4
 length-wrong c =
@@ -40,7 +40,7 @@ length-wrong c =
     let opened = parsed .before .before .before in
     let words = sym (opened .opens .ensures) ∙ not-false _ (parsed .before .before .if2 .left) in
     let a = opened .before .before .before .before .args in
-    wrong-length (a .burst .now) (a .rows .now) (a .out .now) (opened .before .if1 .left) words (parsed .parse .ensures) (else3 .if3 .left) (word .word .ensures) (c .before .if4 .taken) (c .refused4 .ensures)
+    wrong-length (a .burst .now) (a .rows .now) (a .out .now) (opened .before .if1 .left) words (parsed .parse .ensures .0) (else3 .if3 .left) (word .word .ensures) (c .before .if4 .taken) (c .refused4 .ensures)
 
 add-end : tie.Need-add-end
 add-end c =
@@ -49,7 +49,7 @@ add-end c =
     let opened = parsed .before .before .before in
     let words = sym (opened .opens .ensures) ∙ not-false _ (parsed .before .before .if2 .left) in
     let a = opened .before .before .before .before .args in
-    omega (arith, small (a .burst .now) (a .rows .now) (a .out .now) (opened .before .if1 .left) words (parsed .parse .ensures) (else3 .if3 .left))
+    omega (arith, small (a .burst .now) (a .rows .now) (a .out .now) (opened .before .if1 .left) words (parsed .parse .ensures .0) (else3 .if3 .left))
 
 zero-wrong : tie.Need-returns-5
 zero-wrong c =
@@ -60,7 +60,7 @@ zero-wrong c =
     let opened = parsed .before .before .before in
     let words = sym (opened .opens .ensures) ∙ not-false _ (parsed .before .before .if2 .left) in
     let a = opened .before .before .before .before .args in
-    nonzero (a .burst .now) (a .rows .now) (a .out .now) (opened .before .if1 .left) words (parsed .parse .ensures) (else3 .if3 .left) (sym (word .word .ensures) ∙ zeros .before .if4 .left) (sym (zeros .zeros .ensures) ∙ not-true _ (c .before .if5 .taken)) (c .refused5 .ensures)
+    nonzero (a .burst .now) (a .rows .now) (a .out .now) (opened .before .if1 .left) words (parsed .parse .ensures .0) (else3 .if3 .left) (sym (word .word .ensures) ∙ zeros .before .if4 .left) (sym (zeros .zeros .ensures) ∙ not-true _ (c .before .if5 .taken)) (c .refused5 .ensures)
 
 mode-wrong : tie.Need-returns-6
 mode-wrong c =
@@ -73,7 +73,7 @@ mode-wrong c =
     let opened = parsed .before .before .before in
     let words = sym (opened .opens .ensures) ∙ not-false _ (parsed .before .before .if2 .left) in
     let a = opened .before .before .before .before .args in
-    other-mode (a .burst .now) (a .rows .now) (a .out .now) (opened .before .if1 .left) words (parsed .parse .ensures) (else3 .if3 .left) (sym (word .word .ensures) ∙ zeros .before .if4 .left) (sym (zeros .zeros .ensures) ∙ not-false _ (third .before .if5 .left))
+    other-mode (a .burst .now) (a .rows .now) (a .out .now) (opened .before .if1 .left) words (parsed .parse .ensures .0) (else3 .if3 .left) (sym (word .word .ensures) ∙ zeros .before .if4 .left) (sym (zeros .zeros .ensures) ∙ not-false _ (third .before .if5 .left))
     (bsmod .bsmod .ensures .0) (third .word2 .ensures) (c .before .if6 .taken) (c .refused6 .ensures)
 
 room-wrong : tie.Need-returns-7
@@ -88,7 +88,7 @@ room-wrong c =
     let opened = parsed .before .before .before in
     let words = sym (opened .opens .ensures) ∙ not-false _ (parsed .before .before .if2 .left) in
     let a = opened .before .before .before .before .args in
-    room-short (a .burst .now) (a .rows .now) (a .out .now) (opened .before .if1 .left) words (parsed .parse .ensures) (else3 .if3 .left) (sym (word .word .ensures) ∙ zeros .before .if4 .left) (sym (zeros .zeros .ensures) ∙ not-false _ (third .before .if5 .left))
+    room-short (a .burst .now) (a .rows .now) (a .out .now) (opened .before .if1 .left) words (parsed .parse .ensures .0) (else3 .if3 .left) (sym (word .word .ensures) ∙ zeros .before .if4 .left) (sym (zeros .zeros .ensures) ∙ not-false _ (third .before .if5 .left))
     (bsmod .bsmod .ensures .0) (third .word2 .ensures) (else6 .if6 .left) (c .before .if7 .taken) (c .refused7 .ensures)
 
 part-end : tie.Need-part-copy-end
@@ -103,7 +103,7 @@ part-end c =
     let opened = parsed .before .before .before in
     let words = sym (opened .opens .ensures) ∙ not-false _ (parsed .before .before .if2 .left) in
     let a = opened .before .before .before .before .args in
-    omega (arith, end-inside (a .burst .now) (a .rows .now) (a .out .now) (opened .before .if1 .left) words (parsed .parse .ensures) (else3 .if3 .left))
+    omega (arith, end-inside (a .burst .now) (a .rows .now) (a .out .now) (opened .before .if1 .left) words (parsed .parse .ensures .0) (else3 .if3 .left))
 
 done : tie.Need-returns-8
 done c =
@@ -119,7 +119,7 @@ done c =
     let opened = parsed .before .before .before in
     let words = sym (opened .opens .ensures) ∙ not-false _ (parsed .before .before .if2 .left) in
     let a = opened .before .before .before .before .args in
-    copied (a .burst .now) (a .rows .now) (a .out .now) (opened .before .if1 .left) words (parsed .parse .ensures) (else3 .if3 .left) (sym (word .word .ensures) ∙ zeros .before .if4 .left) (sym (zeros .zeros .ensures) ∙ not-false _ (third .before .if5 .left))
+    copied (a .burst .now) (a .rows .now) (a .out .now) (opened .before .if1 .left) words (parsed .parse .ensures .0) (else3 .if3 .left) (sym (word .word .ensures) ∙ zeros .before .if4 .left) (sym (zeros .zeros .ensures) ∙ not-false _ (third .before .if5 .left))
     (bsmod .bsmod .ensures .0) (third .word2 .ensures) (else6 .if6 .left) _ (else7 .if7 .left)
     (part (a .burst .now) (parsed .parse .result .summary .header .bytes)) (copy .copy .ensures)
 

@@ -17,28 +17,28 @@ refused-frame : tie.Need-returns
 refused-frame c =
     let parsed = c .before .before .before .before in
     let a = parsed .before .before .before .before .args in
-    frame-refused (a .capture .now) (a .place) (a .rows .now) (a .out .now) (parsed .parse .ensures) (c .before .if1 .taken) (c .refused .ensures)
+    frame-refused (a .capture .now) (a .place) (a .rows .now) (a .out .now) (parsed .parse .ensures .0) (c .before .if1 .taken) (c .refused .ensures)
 
 short : tie.Need-returns-2
 short c =
     let else1 = c .before .before in
     let parsed = else1 .before .before .before in
     let a = parsed .before .before .before .before .args in
-    too-short (a .capture .now) (a .place) (a .rows .now) (a .out .now) (parsed .parse .ensures) (else1 .if1 .left) (c .before .if2 .taken) (c .refused2 .ensures)
+    too-short (a .capture .now) (a .place) (a .rows .now) (a .out .now) (parsed .parse .ensures .0) (else1 .if1 .left) (c .before .if2 .taken) (c .refused2 .ensures)
 
 add-end : tie.Need-add-end
 add-end c =
     let else1 = c .before .before .before .before in
     let parsed = else1 .before .before .before in
     let a = parsed .before .before .before .before .args in
-    omega (arith, ends (a .capture .now) (a .place) (a .rows .now) (a .out .now) (parsed .parse .ensures) (else1 .if1 .left))
+    omega (arith, ends (a .capture .now) (a .place) (a .rows .now) (a .out .now) (parsed .parse .ensures .0) (else1 .if1 .left))
 
 part-put-end : tie.Need-part-put-end
 part-put-end c =
     let else1 = c .before .before .before .before in
     let parsed = else1 .before .before .before in
     let a = parsed .before .before .before .before .args in
-    omega (arith, ends (a .capture .now) (a .place) (a .rows .now) (a .out .now) (parsed .parse .ensures) (else1 .if1 .left))
+    omega (arith, ends (a .capture .now) (a .place) (a .rows .now) (a .out .now) (parsed .parse .ensures .0) (else1 .if1 .left))
 
 put-requires : tie.Need-put-requires
 put-requires c κs =
@@ -47,7 +47,7 @@ put-requires c κs =
     let else1 = else2 .before in
     let parsed = else1 .before .before .before in
     let a = parsed .before .before .before .before .args in
-    let fit = fits (a .capture .now) (a .place) (a .rows .now) (a .out .now) (parsed .parse .ensures) (else1 .if1 .left) in
+    let fit = fits (a .capture .now) (a .place) (a .rows .now) (a .out .now) (parsed .parse .ensures .0) (else1 .if1 .left) in
     let same = part (a .capture .now) (a .place) (parsed .parse .result .summary .header .bytes) in
     (omega (arith, fit, ap length same), else2 .if2 .left, bsmod .bsmod .ensures .1)
 
@@ -59,7 +59,7 @@ done c =
     let else1 = else2 .before in
     let parsed = else1 .before .before .before in
     let a = parsed .before .before .before .before .args in
-    put-burst (a .capture .now) (a .place) (a .rows .now) (a .out .now) (parsed .parse .ensures) (else1 .if1 .left) _ (else2 .if2 .left) (bsmod .bsmod .ensures .0)
+    put-burst (a .capture .now) (a .place) (a .rows .now) (a .out .now) (parsed .parse .ensures .0) (else1 .if1 .left) _ (else2 .if2 .left) (bsmod .bsmod .ensures .0)
     (part (a .capture .now) (a .place) (parsed .parse .result .summary .header .bytes)) (put .put .ensures)
 
 pub burst-write-spec : {M : Type 1} → statement M
@@ -80,6 +80,7 @@ burst-write-spec =
     part-put-end
     (λ c κs. search needs)  -- bsmod-requires
     put-requires
+    (λ c. search needs)  -- cast-bytes
     (λ c. search needs)  -- same-length-3
     (λ c. search needs)  -- same-length-4
     done)

@@ -20,8 +20,8 @@ entries c =
     let refusal = rows .before in
     λ i.
     (back {z = refusal .wide .result} (search needs) (refusal .wide .ensures)) i
-    ∷ (back {z = rows .held .result} (search needs) (rows .held .ensures)) i
-    ∷ (back {z = c .held2 .result} (search needs) (c .held2 .ensures)) i
+    ∷ (back {z = rows .row-count .result} (search needs) (rows .row-count .ensures)) i
+    ∷ (back {z = c .wide2 .result} (search needs) (c .wide2 .ensures)) i
     ∷ []
 
 pub burst-numbers-spec : {M : Type 1} → statement M
@@ -30,6 +30,6 @@ burst-numbers-spec =
     (tie.spec
     (λ c. search needs)  -- cast-wide
     (λ c κs. search needs)  -- wide-requires
-    (λ c κs. search needs)  -- held-requires
-    (λ c κs. search needs)  -- held-requires-2
+    (λ c κs. search needs)  -- row-count-requires
+    (λ c κs. search needs)  -- wide-requires-2
     entries)

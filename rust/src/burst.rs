@@ -6,38 +6,36 @@
 //! ```
 //! use ferrysprig::burst::{self, Refusal};
 //!
-//! let frame = std::fs::read("../judge/frames/rate-192-2_0-tones.ac3").unwrap();
-//! let burst = burst::write(&frame, 0).unwrap();
+//! let frame = include_bytes!("../../judge/frames/rate-192-2_0-tones.ac3");
+//! let burst = burst::write(frame, 0)?;
 //! assert_eq!(burst[..4], [0xF8, 0x72, 0x4E, 0x1F]);
-//! let back = burst::read(&burst).unwrap();
-//! assert_eq!(back[..], frame[..back.len()]);
+//! let back = burst::read(&burst)?;
+//! assert_eq!(back, frame[..back.len()]);
 //!
 //! assert_eq!(burst::read(&burst[1..]), Err(Refusal::NotABurst));
 //! assert_eq!(burst::write(&burst, 0), Err(Refusal::Frame(2))); // no sync word at byte 0
-//! assert!(burst::write(&burst, 8).is_ok()); // the frame stands behind four words
+//! assert_eq!(burst::write(&burst, 8)?, burst); // the frame stands behind four words
+//! # Ok::<(), Refusal>(())
 //! ```
 
-use crate::names::REFUSALS;
+use crate::layout::{BurstAnswer, BURST_BYTES, MOST_BYTES, REFUSAL};
+use crate::names::{known, meaning};
+use crate::parser::in_kept_room;
 use crate::raw;
 use std::fmt;
 
 /// The bytes of a burst.
-pub const BYTES: usize = 6144;
+pub const BYTES: usize = BURST_BYTES;
 
-/// Bytes that no frame exceeds.
-const MOST_FRAME_BYTES: usize = 3840;
-
-/// Rows that no frame exceeds.
-const MOST_ROWS: usize = 8 * MOST_FRAME_BYTES + 12;
-
-/// Why nothing was written, in the order in which it is looked for.
-#[derive(Clone, Copy, Debug, PartialEq, Eq)]
+/// Why nothing was written, in the order in which reading looks for it. (Writing gives the frame's own refusals, then `NoRoom`.)
+#[derive(Clone, Copy, Debug, PartialEq, Eq, Hash)]
+#[non_exhaustive]
 pub enum Refusal {
-    /// 30: not 6,144 bytes.
+    /// 30: the burst is not 6,144 bytes.
     NotABurst,
     /// 31: the first three words are wrong outside bits 8 to 10 of the third.
     WrongWords,
-    /// The frame's own refusal, by its number (see [`REFUSALS`]).
+    /// The frame's own refusal, by its number: that of [`crate::Refusal`], which [`crate::parse_at`] gives in full.
     Frame(u8),
     /// 32: the fourth word is not the frame's length in bits.
     WrongLength,
@@ -45,12 +43,12 @@ pub enum Refusal {
     NotZero,
     /// 34: bits 8 to 10 of the third word are not the frame's bsmod.
     OtherBsmod,
-    /// 28: the output is too short. ([`write`] and [`read`] lend enough; [`write_into`] and [`read_into`] lend what they are given.)
+    /// 28: the output is too short. ([`write`] and [`read`] have enough of it; [`write_into`] and [`read_into`] have what they are lent.)
     NoRoom,
 }
 
 impl Refusal {
-    /// The number that the archive gives.
+    /// Its number (docs/FORMAT.md).
     pub fn number(self) -> u8 {
         match self {
             Refusal::NotABurst => 30,
@@ -71,9 +69,7 @@ impl Refusal {
             32 => Refusal::WrongLength,
             33 => Refusal::NotZero,
             34 => Refusal::OtherBsmod,
-            own => Refusal::Frame(
-                u8::try_from(own).expect("libferrysprig.a gave a refusal without meaning"),
-            ),
+            own => Refusal::Frame(known(own)),
         }
     }
 
@@ -84,10 +80,7 @@ impl Refusal {
             Refusal::WrongWords => {
                 "the first three words are wrong outside bits 8 to 10 of the third"
             }
-            Refusal::Frame(number) => usize::from(number)
-                .checked_sub(1)
-                .and_then(|n| REFUSALS.get(n).copied())
-                .unwrap_or("no refusal has this number"),
+            Refusal::Frame(number) => meaning(number),
             Refusal::WrongLength => "the fourth word is not the frame's length in bits",
             Refusal::NotZero => "a byte after the frame is not 0",
             Refusal::OtherBsmod => "bits 8 to 10 of the third word are not the frame's bsmod",
@@ -104,58 +97,65 @@ impl fmt::Display for Refusal {
 
 impl std::error::Error for Refusal {}
 
-fn written(answer: [i32; raw::BURST_ANSWER]) -> Result<usize, Refusal> {
-    match answer[0] {
-        0 => Ok(usize::try_from(answer[2]).expect("libferrysprig.a gave a count without meaning")),
-        number => Err(Refusal::of(number)),
-    }
-}
-
-/// The frame at byte `place` of `capture` as a burst.
+/// The frame at byte `place` of `capture` as a burst, of [`BYTES`] bytes. Bytes after the frame are not looked at.
 pub fn write(capture: &[u8], place: usize) -> Result<Vec<u8>, Refusal> {
     let mut out = vec![0; BYTES];
-    write_into(capture, place, &mut vec![0; MOST_ROWS * raw::ROW], &mut out)?;
+    in_kept_room(|room| write_into(capture, place, room, &mut out).map(drop))?;
     Ok(out)
 }
 
-/// The frame of a burst.
+/// The frame of a burst, which is all of `burst`.
 ///
 /// ```
 /// use ferrysprig::burst::{self, Refusal};
 ///
-/// let frame = std::fs::read("../judge/frames/rate-192-2_0-tones.ac3").unwrap();
-/// let mut burst = burst::write(&frame, 0).unwrap();
+/// let frame = include_bytes!("../../judge/frames/rate-192-2_0-tones.ac3");
+/// let mut burst = burst::write(frame, 0)?;
 /// burst[6143] = 1;
 /// assert_eq!(burst::read(&burst), Err(Refusal::NotZero));
+/// # Ok::<(), Refusal>(())
 /// ```
 pub fn read(burst: &[u8]) -> Result<Vec<u8>, Refusal> {
-    let mut out = vec![0; MOST_FRAME_BYTES];
-    let bytes = read_into(burst, &mut vec![0; MOST_ROWS * raw::ROW], &mut out)?;
-    out.truncate(bytes);
-    Ok(out)
+    in_kept_room(|room| read_into(burst, room, &mut [0; MOST_BYTES]).map(<[u8]>::to_vec))
 }
 
-/// [`write`] into lent room: `rows` is for the fields (8 numbers to a row), and the burst goes to the front of `out`. Answers the bytes written.
+/// Writes as [`write`] does, in room that the caller lends: `rows` as [`parse_into`](crate::parse_into) takes it, and `out` for the burst,
+/// which is its front. The rest of `out`, and on a refusal all of it, is not touched.
 ///
 /// ```
 /// use ferrysprig::burst::{self, Refusal};
+/// use ferrysprig::{MOST_ROWS, ROW_NUMBERS};
 ///
-/// let frame = std::fs::read("../judge/frames/rate-192-2_0-tones.ac3").unwrap();
-/// let (mut rows, mut out) = (vec![0; 8 * 4067], vec![0xAA; 6144]);
-/// assert_eq!(burst::write_into(&frame, 0, &mut rows, &mut out[1..]), Err(Refusal::NoRoom));
-/// assert!(out.iter().all(|&byte| byte == 0xAA)); // a refusal writes nothing
-/// assert_eq!(burst::write_into(&frame, 0, &mut rows, &mut out), Ok(6144));
+/// let frame = include_bytes!("../../judge/frames/rate-192-2_0-tones.ac3");
+/// let (mut rows, mut out) = ([0; MOST_ROWS * ROW_NUMBERS], [0xAA; 6144]);
+/// let refused = burst::write_into(frame, 0, &mut rows, &mut out[1..]);
+/// assert_eq!(refused, Err(Refusal::NoRoom));
+/// assert_eq!(out, [0xAA; 6144]);
+/// assert_eq!(burst::write_into(frame, 0, &mut rows, &mut out)?.len(), 6144);
+/// # Ok::<(), Refusal>(())
 /// ```
-pub fn write_into(
+pub fn write_into<'a>(
     capture: &[u8],
     place: usize,
     rows: &mut [i32],
-    out: &mut [u8],
-) -> Result<usize, Refusal> {
-    written(raw::burst_write(capture, place, rows, out))
+    out: &'a mut [u8],
+) -> Result<&'a [u8], Refusal> {
+    done(raw::burst_write(capture, place, rows, out))
 }
 
-/// [`read`] into lent room. Answers the frame's bytes.
-pub fn read_into(burst: &[u8], rows: &mut [i32], out: &mut [u8]) -> Result<usize, Refusal> {
-    written(raw::burst_read(burst, rows, out))
+/// Reads as [`read`] does, in room that the caller lends: `rows` as [`parse_into`](crate::parse_into) takes it, and `out` for the frame,
+/// which is its front; [`MOST_BYTES`] are always enough. The rest of `out`, and on a refusal all of it, is not touched.
+pub fn read_into<'a>(
+    burst: &[u8],
+    rows: &mut [i32],
+    out: &'a mut [u8],
+) -> Result<&'a [u8], Refusal> {
+    done(raw::burst_read(burst, rows, out))
+}
+
+fn done((answer, written): (BurstAnswer, &[u8])) -> Result<&[u8], Refusal> {
+    match answer[REFUSAL] {
+        0 => Ok(written),
+        number => Err(Refusal::of(number)),
+    }
 }

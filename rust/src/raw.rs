@@ -1,9 +1,8 @@
 //! The archive's functions (c/ferrysprig.h) as safe ones. All unsafe code of the crate stands here.
 
-use crate::layout::{Answer, ANSWER_NUMBERS, ROWS, ROW_NUMBERS};
-
-/// The numbers of an answer about a burst: refusal (0: done), rows that the parse left, bytes written.
-pub const BURST_ANSWER: usize = 3;
+use crate::layout::{
+    Answer, BurstAnswer, ANSWER_NUMBERS, BURST_ANSWER_NUMBERS, BURST_WRITTEN, ROWS, ROW_NUMBERS,
+};
 
 extern "C" {
     fn ferrysprig_parse(
@@ -31,7 +30,7 @@ extern "C" {
         rows_len: usize,
         out: *mut u8,
         out_len: usize,
-        answer: *mut [i32; BURST_ANSWER],
+        answer: *mut BurstAnswer,
     );
     fn ferrysprig_burst_read(
         burst: *const u8,
@@ -40,7 +39,7 @@ extern "C" {
         rows_len: usize,
         out: *mut u8,
         out_len: usize,
-        answer: *mut [i32; BURST_ANSWER],
+        answer: *mut BurstAnswer,
     );
 }
 
@@ -75,16 +74,16 @@ pub fn range_eq(x: &[u8], a: usize, y: &[u8], b: usize, n: usize) -> bool {
     unsafe { ferrysprig_range_eq(x.as_ptr(), x.len(), a, y.as_ptr(), y.len(), b, n) }
 }
 
-/// Writes the frame at byte `place` of `capture` to the front of `out` as one burst.
-pub fn burst_write(
+/// Writes the frame at byte `place` of `capture` to the front of `out` as one burst; the answer, and the bytes that it says were written.
+pub fn burst_write<'a>(
     capture: &[u8],
     place: usize,
     rows: &mut [i32],
-    out: &mut [u8],
-) -> [i32; BURST_ANSWER] {
-    let mut answer = [0; BURST_ANSWER];
-    // SAFETY: each pointer and length is that of a slice or an array that lives through the call; `rows`, `out` and `answer` are borrowed mutably,
-    // so nothing else refers to them. The function asks nothing more of its caller, writes only there, and keeps no pointer.
+    out: &'a mut [u8],
+) -> (BurstAnswer, &'a [u8]) {
+    let mut answer = [0; BURST_ANSWER_NUMBERS];
+    // SAFETY: each pointer and length is that of a slice or an array that lives through the call; `rows`, `out` and `answer` are borrowed
+    // mutably, so nothing else refers to them. The function asks nothing more of its caller, writes only there, and keeps no pointer.
     unsafe {
         ferrysprig_burst_write(
             capture.as_ptr(),
@@ -97,13 +96,17 @@ pub fn burst_write(
             &mut answer,
         );
     }
-    answer
+    (answer, written(&answer, out))
 }
 
-/// Writes the frame of `burst` to the front of `out`.
-pub fn burst_read(burst: &[u8], rows: &mut [i32], out: &mut [u8]) -> [i32; BURST_ANSWER] {
-    let mut answer = [0; BURST_ANSWER];
-    // SAFETY: as of `burst_write`.
+/// Writes the frame of `burst` to the front of `out`; the answer, and the bytes that it says were written.
+pub fn burst_read<'a>(
+    burst: &[u8],
+    rows: &mut [i32],
+    out: &'a mut [u8],
+) -> (BurstAnswer, &'a [u8]) {
+    let mut answer = [0; BURST_ANSWER_NUMBERS];
+    // SAFETY: as in `burst_write`.
     unsafe {
         ferrysprig_burst_read(
             burst.as_ptr(),
@@ -115,5 +118,13 @@ pub fn burst_read(burst: &[u8], rows: &mut [i32], out: &mut [u8]) -> [i32; BURST
             &mut answer,
         );
     }
-    answer
+    (answer, written(&answer, out))
+}
+
+/// What an answer about a burst says was written. (That the count fits is proved, as in `parse`.)
+fn written<'a>(answer: &BurstAnswer, out: &'a [u8]) -> &'a [u8] {
+    usize::try_from(answer[BURST_WRITTEN])
+        .ok()
+        .and_then(|count| out.get(..count))
+        .expect("libferrysprig.a wrote more bytes than there is room for")
 }

@@ -43,7 +43,7 @@ pub enum Refusal {
     NotZero,
     /// 34: bits 8 to 10 of the third word are not the frame's bsmod.
     OtherBsmod,
-    /// 28: the output is too short. ([`write`] and [`read`] have enough of it; [`write_into`] and [`read_into`] have what they are lent.)
+    /// 28: the output is too short. ([`write()`] and [`read()`] have enough of it; [`write_into`] and [`read_into`] what they are lent.)
     NoRoom,
 }
 
@@ -119,7 +119,7 @@ pub fn read(burst: &[u8]) -> Result<Vec<u8>, Refusal> {
     in_kept_room(|room| read_into(burst, room, &mut [0; MOST_BYTES]).map(<[u8]>::to_vec))
 }
 
-/// Writes as [`write`] does, in room that the caller lends: `rows` as [`parse_into`](crate::parse_into) takes it, and `out` for the burst,
+/// Writes as [`write()`] does, in room that the caller lends: `rows` as [`parse_into`](crate::parse_into) takes it, and `out` for the burst,
 /// which is its front. The rest of `out`, and on a refusal all of it, is not touched.
 ///
 /// ```
@@ -143,7 +143,7 @@ pub fn write_into<'a>(
     done(raw::burst_write(capture, place, rows, out))
 }
 
-/// Reads as [`read`] does, in room that the caller lends: `rows` as [`parse_into`](crate::parse_into) takes it, and `out` for the frame,
+/// Reads as [`read()`] does, in room that the caller lends: `rows` as [`parse_into`](crate::parse_into) takes it, and `out` for the frame,
 /// which is its front; [`MOST_BYTES`] are always enough. The rest of `out`, and on a refusal all of it, is not touched.
 pub fn read_into<'a>(
     burst: &[u8],

@@ -119,8 +119,8 @@ pub fn read(burst: &[u8]) -> Result<Vec<u8>, Refusal> {
     in_kept_room(|room| read_into(burst, room, &mut [0; MOST_BYTES]).map(<[u8]>::to_vec))
 }
 
-/// Writes as [`write()`] does, in room that the caller lends: `rows` as [`parse_into`](crate::parse_into) takes it, and `out` for the burst,
-/// which is its front. The rest of `out`, and on a refusal all of it, is not touched.
+/// Writes as [`write()`] does, in room that the caller lends: `rows` as [`parse_into`](crate::parse_into) takes it, and `out`, whose front
+/// becomes the burst. The rest of `out`, and on a refusal all of it, is not touched.
 ///
 /// ```
 /// use ferrysprig::burst::{self, Refusal};
@@ -143,8 +143,8 @@ pub fn write_into<'a>(
     done(raw::burst_write(capture, place, rows, out))
 }
 
-/// Reads as [`read()`] does, in room that the caller lends: `rows` as [`parse_into`](crate::parse_into) takes it, and `out` for the frame,
-/// which is its front; [`MOST_BYTES`] are always enough. The rest of `out`, and on a refusal all of it, is not touched.
+/// Reads as [`read()`] does, in room that the caller lends: `rows` as [`parse_into`](crate::parse_into) takes it, and `out`, whose front
+/// becomes the frame; [`MOST_BYTES`] are always enough. The rest of `out`, and on a refusal all of it, is not touched.
 pub fn read_into<'a>(
     burst: &[u8],
     rows: &mut [i32],

@@ -3,7 +3,7 @@
    proved.
 
    The functions have no state: no heap, no globals, no files, no signals. Any number of threads may call them at once, each with its own
-   `rows` and `answer`. The archive needs memcpy, memmove and memset, and nothing else.
+   `rows`, `out` and `answer`. The archive needs memcpy, memmove and memset, and nothing else.
 
    An edit breaks the checksums: but for the sync word, crc1 guards the first five eighths of a frame and crc2 all of it. Whoever changes a
    field makes crc2 wrong, and crc1 too where the field stands that early, and a decoder may then drop the frame. The functions neither
@@ -23,7 +23,7 @@ extern "C" {
 #define FERRYSPRIG_VERSION "0.1.0"
 #define FERRYSPRIG_VERSION_NUMBER 100 /* 10,000 times the first part, 100 times the second, and the third */
 
-/* Bytes of stack that are enough for a call. (c/test.c measures it: a call takes some 11,600, and where the program finds memcpy and the
+/* Bytes of stack that are enough for a call. (c/test.c measures it: a call takes some 11,700, and where the program finds memcpy and the
    others at their first use, the loader takes some 2,400 more.) */
 #define FERRYSPRIG_STACK_BYTES 16384
 
@@ -110,7 +110,7 @@ enum {
     /* 111 */ "mantissas" \
 }
 
-/* What each refusal means. */
+/* What each refusal means: 1 to 20 of a frame, 28 and 30 to 34 of a burst. (No others are given.) */
 #define FERRYSPRIG_MEANINGS { \
     /*  0 */ "accepted", \
     /*  1 */ "the input has fewer than 6 bytes", \
@@ -132,7 +132,15 @@ enum {
     /* 17 */ "an exponent is outside 0 to 24 after a step", \
     /* 18 */ "cpldeltbae or deltbae is 0 in block 0", \
     /* 19 */ "cpldeltbae or deltbae is 3", \
-    /* 20 */ "the coupling leak is needed, but was never sent" \
+    /* 20 */ "the coupling leak is needed, but was never sent", \
+    /* 21 */ "", "", "", "", "", "", "", \
+    /* 28 */ "the output is too short", \
+    /* 29 */ "", \
+    /* 30 */ "the burst is not 6,144 bytes", \
+    /* 31 */ "the first three words are wrong outside bits 8 to 10 of the third", \
+    /* 32 */ "the fourth word is not the frame's length in bits", \
+    /* 33 */ "a byte after the frame is not 0", \
+    /* 34 */ "bits 8 to 10 of the third word are not the frame's bsmod" \
 }
 
 /* Parses the frame at byte `place` of `capture` into the lent `rows`, and writes the answer's numbers.
@@ -152,6 +160,33 @@ void ferrysprig_parse(const uint8_t *capture, size_t capture_len, size_t place, 
    its bytes, or at a bit that 64 bits cannot count, they are not: the answer is false. A range of no bits ends where it starts, so it
    equals another if both start at most at the ends. x and y may overlap or be the same. */
 bool ferrysprig_range_eq(const uint8_t *x, size_t x_len, size_t a, const uint8_t *y, size_t y_len, size_t b, size_t n);
+
+/* IEC 61937 data bursts: a frame as 6,144 bytes, and back. docs/FORMAT.md has a burst word by word. */
+
+/* The bytes of a burst. */
+#define FERRYSPRIG_BURST_BYTES 6144
+
+/* The numbers of an answer about a burst. */
+enum {
+    FERRYSPRIG_BURST_ANSWER_REFUSAL = 0, /* 0: done; 1 to 20: the frame's own; else 28 or 30 to 34, see FERRYSPRIG_MEANINGS */
+    FERRYSPRIG_BURST_ANSWER_ROWS = 1,    /* how many rows were written by parsing, on a refusal too; 0 at 30 and 31, which come before it */
+    FERRYSPRIG_BURST_ANSWER_WRITTEN = 2  /* how many bytes were written to the front of `out`; 0 on a refusal */
+};
+#define FERRYSPRIG_BURST_ANSWER_NUMBERS 3
+
+/* Writes the frame at byte `place` of `capture` to the front of `out` as one burst, FERRYSPRIG_BURST_BYTES bytes. The frame is parsed into
+   the lent `rows`, with the refusals of ferrysprig_parse; then 28 is given if `out` is shorter than a burst. Everything else that is said
+   of ferrysprig_parse holds here: any input is answered, and `rows`, `out` and `answer` overlap nothing. Bytes of `out` past those written
+   are not touched, and none is on a refusal. */
+void ferrysprig_burst_write(const uint8_t *capture, size_t capture_len, size_t place, int32_t *rows, size_t rows_len, uint8_t *out,
+                            size_t out_len, int32_t answer[FERRYSPRIG_BURST_ANSWER_NUMBERS]);
+
+/* Writes the frame of `burst` to the front of `out`; FERRYSPRIG_MOST_BYTES are always enough. `burst_len` is that of the burst, so 6,144.
+   The refusals are given in this order: 30, 31, those of parsing the bytes from byte 8 on into `rows`, 32, 33, 34, and 28 if `out` is
+   shorter than the frame. Any input is answered; `rows`, `out` and `answer` overlap nothing. Bytes of `out` past those written are not
+   touched, and none is on a refusal. */
+void ferrysprig_burst_read(const uint8_t *burst, size_t burst_len, int32_t *rows, size_t rows_len, uint8_t *out, size_t out_len,
+                           int32_t answer[FERRYSPRIG_BURST_ANSWER_NUMBERS]);
 
 #ifdef __cplusplus
 }

@@ -86,6 +86,45 @@ static void try_range_eq(void) {
     holds("more bits than can be counted", !ferrysprig_range_eq(moved, 4, 8, moved, 4, 8, SIZE_MAX));
 }
 
+static uint8_t out[FERRYSPRIG_BURST_BYTES + 1];
+
+/* Whether an answer about a burst says so, with the output untouched. */
+static bool burst_refused(int32_t number, int32_t count) {
+    for (size_t i = 0; i < sizeof out; i++)
+        if (out[i] != 0xA5)
+            return false;
+    return answer[FERRYSPRIG_BURST_ANSWER_REFUSAL] == number && answer[FERRYSPRIG_BURST_ANSWER_ROWS] == count
+        && answer[FERRYSPRIG_BURST_ANSWER_WRITTEN] == 0 && answer[FERRYSPRIG_BURST_ANSWER_NUMBERS] == UNTOUCHED
+        && untouched_from(WIDTH * count);
+}
+
+static void read_burst(const uint8_t *burst, size_t length) {
+    mark();
+    memset(out, 0xA5, sizeof out);
+    ferrysprig_burst_read(burst, length, rows, ROOM, out, sizeof out, answer);
+}
+
+static void try_bursts(void) {
+    static uint8_t burst[FERRYSPRIG_BURST_BYTES] = {0xF8, 0x72, 0x4E, 0x1F, 0x00, 0x01};
+    memcpy(&burst[8], example, sizeof example);
+    mark();
+    memset(out, 0xA5, sizeof out);
+    ferrysprig_burst_write(NULL, 0, 0, NULL, 0, NULL, 0, answer);
+    holds("a burst of nothing at all", burst_refused(1, 0));
+    mark();
+    ferrysprig_burst_write(example, sizeof example, 0, rows, ROOM, out, sizeof out, answer);
+    holds("a burst of the example", burst_refused(3, 4));
+    read_burst(NULL, 0);
+    holds("the frame of nothing at all", burst_refused(30, 0));
+    read_burst(burst, sizeof burst - 1);
+    holds("a burst too short", burst_refused(30, 0));
+    read_burst(burst, sizeof burst);
+    holds("a burst with the example", burst_refused(3, 4));
+    burst[5] = 2;
+    read_burst(burst, sizeof burst);
+    holds("a burst of another data type", burst_refused(31, 0));
+}
+
 static void try_texts(void) {
     static const char *const names[] = FERRYSPRIG_NAMES;
     static const char *const roles[] = FERRYSPRIG_ROLES;
@@ -94,7 +133,8 @@ static void try_texts(void) {
     holds("the first and the last name", strcmp(names[1], "syncword") == 0 && strcmp(names[last], "mantissas") == 0);
     holds("roles by their numbers", strcmp(roles[FERRYSPRIG_ROLE_FRAME_SIZE], "FrameSize") == 0
               && strcmp(roles[FERRYSPRIG_ROLE_MANTISSAS], "Mantissas") == 0);
-    holds("meanings by their numbers", strcmp(meanings[0], "accepted") == 0 && strcmp(meanings[5], "bsid is above 8") == 0);
+    holds("meanings by their numbers", strcmp(meanings[0], "accepted") == 0 && strcmp(meanings[5], "bsid is above 8") == 0
+              && strcmp(meanings[33], "a byte after the frame is not 0") == 0);
 }
 
 /* A stack for calls alone: what they used of it is no longer as it was. */
@@ -103,12 +143,23 @@ static uint8_t stream[65536];
 static size_t stream_len;
 static ucontext_t here, there;
 
-static void parse_stream(void) {
+/* Parses a stream, or writes its frames as bursts and reads those. */
+static bool as_bursts;
+
+static void call(void) {
     static int32_t room[FERRYSPRIG_MOST_ROWS * WIDTH];
-    size_t place = 0;
+    static uint8_t back[FERRYSPRIG_MOST_BYTES];
+    size_t place = 0, numbers = sizeof room / sizeof *room;
     do {
-        ferrysprig_parse(stream, stream_len, place, room, sizeof room / sizeof *room, answer);
-        place += (size_t)answer[FERRYSPRIG_ANSWER_BYTES];
+        if (as_bursts) {
+            ferrysprig_burst_write(stream, stream_len, place, room, numbers, out, sizeof out, answer);
+            if (answer[FERRYSPRIG_BURST_ANSWER_REFUSAL] == 0)
+                ferrysprig_burst_read(out, FERRYSPRIG_BURST_BYTES, room, numbers, back, sizeof back, answer);
+            place += (size_t)answer[FERRYSPRIG_BURST_ANSWER_WRITTEN];
+        } else {
+            ferrysprig_parse(stream, stream_len, place, room, numbers, answer);
+            place += (size_t)answer[FERRYSPRIG_ANSWER_BYTES];
+        }
     } while (answer[FERRYSPRIG_ANSWER_REFUSAL] == 0);
 }
 
@@ -118,7 +169,7 @@ static size_t stack_used(void) {
     there.uc_stack.ss_sp = stack;
     there.uc_stack.ss_size = sizeof stack;
     there.uc_link = &here;
-    makecontext(&there, parse_stream, 0);
+    makecontext(&there, call, 0);
     swapcontext(&here, &there);
     size_t unused = 0;
     while (unused < sizeof stack && stack[unused] == 0xA5)
@@ -135,8 +186,11 @@ static void try_stack(int files, char **names) {
         all_read = all_read && stream_len > 0;
         if (in)
             fclose(in);
-        size_t used = stack_used();
-        most = used > most ? used : most;
+        for (int bursts = 0; bursts < 2; bursts++) {
+            as_bursts = bursts;
+            size_t used = stack_used();
+            most = used > most ? used : most;
+        }
     }
     holds("frames were read", all_read);
     printf("%zu bytes of stack were used\n", most);
@@ -146,6 +200,7 @@ static void try_stack(int files, char **names) {
 int main(int argc, char **argv) {
     try_calls();
     try_range_eq();
+    try_bursts();
     try_texts();
     try_stack(argc - 1, argv + 1);
     return all_hold ? 0 : 1;

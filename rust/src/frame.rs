@@ -1,6 +1,7 @@
 //! What comes of parsing: a frame, in a list of its own or in lent room, or a refusal.
 
-use crate::{Field, Fields, Role, REFUSALS};
+use crate::names::meaning;
+use crate::{Field, Fields, Role};
 use std::fmt;
 
 /// What an accepted frame says of itself.
@@ -130,10 +131,7 @@ pub struct Refusal {
 impl Refusal {
     /// What the number means.
     pub fn meaning(&self) -> &'static str {
-        usize::from(self.number)
-            .checked_sub(1)
-            .and_then(|n| REFUSALS.get(n))
-            .unwrap_or(&"no refusal has this number")
+        meaning(self.number)
     }
 }
 
@@ -154,6 +152,7 @@ impl std::error::Error for Refusal {}
 #[cfg(test)]
 mod tests {
     use super::*;
+    use crate::REFUSALS;
 
     fn refusal(number: u8) -> Refusal {
         Refusal {

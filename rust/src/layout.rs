@@ -51,6 +51,17 @@ pub(crate) fn field(row: &[i32; ROW_NUMBERS]) -> Field {
     }
 }
 
+/// The bytes of a burst.
+pub(crate) const BURST_BYTES: usize = 6144;
+
+/// The numbers of an answer about a burst. The first two are those of every answer: [`REFUSAL`] and [`ROWS`].
+pub(crate) const BURST_ANSWER_NUMBERS: usize = 3;
+
+pub(crate) type BurstAnswer = [i32; BURST_ANSWER_NUMBERS];
+
+/// How many bytes were written to the output.
+pub(crate) const BURST_WRITTEN: usize = 2;
+
 /// The summary in an accepted frame's answer. (Number 3 is the count of rows again.)
 pub(crate) fn summary(answer: &Answer) -> Summary {
     Summary {

@@ -38,6 +38,10 @@
 //! # Ok::<(), ferrysprig::Refusal>(())
 //! ```
 //!
+//! # Bursts
+//!
+//! [`burst`] writes a frame as an IEC 61937 data burst, and reads the frame of one.
+//!
 //! # What comes after the audio
 //!
 //! The original's `parse` ends with `read_tail`: auxiliary data, crcrsv and crc2. That is the caller's. It goes on at bit
@@ -91,6 +95,7 @@
 
 #![warn(missing_docs)]
 
+pub mod burst;
 mod field;
 mod frame;
 mod layout;

@@ -41,6 +41,14 @@ pub const REFUSALS: &[&str] = &[
     "the coupling leak is needed, but was never sent",
 ];
 
+/// What a frame's refusal means, by its number.
+pub(crate) fn meaning(refusal: u8) -> &'static str {
+    usize::from(refusal)
+        .checked_sub(1)
+        .and_then(|n| REFUSALS.get(n))
+        .unwrap_or(&"no refusal has this number")
+}
+
 /// What an element means to the metadata editor. Everything not listed is `Plain`. A number that a role carries is the programme: 0 for the
 /// first or only one, 1 for the second.
 ///

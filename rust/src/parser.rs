@@ -6,26 +6,26 @@ use crate::{raw, Fields, Frame, FrameRef, Refusal};
 use std::cell::RefCell;
 use std::fmt;
 
-/// Parses the frame at the start of `data`; bytes after the frame are not looked at. (A thread that calls this or [`parse_at`] keeps a
-/// [`Parser`] for it.)
+/// Parses the frame at the start of `data`; bytes after the frame are not looked at. (A thread that calls this, [`parse_at`],
+/// [`burst::write`](crate::burst::write) or [`burst::read`](crate::burst::read) keeps a [`Parser`] for it.)
 pub fn parse(data: &[u8]) -> Result<Frame, Refusal> {
     parse_at(data, 0)
 }
 
 /// Parses the frame at byte `place` of `capture`; positions are counted from there. A place past the end is refusal 1.
 pub fn parse_at(capture: &[u8], place: usize) -> Result<Frame, Refusal> {
-    let parse = |parser: &mut Parser| {
-        parser
-            .parse_at(capture, place)
-            .map(|frame| frame.to_frame())
-    };
-    KEPT.try_with(|parser| parse(&mut parser.borrow_mut()))
+    in_kept_room(|room| parse_into(capture, place, room).map(|frame| frame.to_frame()))
+}
+
+/// Does some work in room for any frame, which the thread keeps.
+pub(crate) fn in_kept_room<T>(mut work: impl FnMut(&mut [i32]) -> T) -> T {
+    KEPT.try_with(|parser| work(&mut parser.borrow_mut().room))
         // The thread is ending, and its parser is gone.
-        .unwrap_or_else(|_| parse(&mut Parser::new()))
+        .unwrap_or_else(|_| work(&mut Parser::new().room))
 }
 
 thread_local! {
-    /// The parser of `parse` and `parse_at`: to make room for one frame can take longer than to parse it.
+    /// The parser of the functions that are lent no room: to make room for one frame can take longer than to parse it.
     static KEPT: RefCell<Parser> = RefCell::new(Parser::new());
 }
 

@@ -1,6 +1,8 @@
 //! The archive's functions (c/ferrysprig.h) as safe ones. All unsafe code of the crate stands here.
 
-use crate::layout::{Answer, ANSWER_NUMBERS, ROWS, ROW_NUMBERS};
+use crate::layout::{
+    Answer, BurstAnswer, ANSWER_NUMBERS, BURST_ANSWER_NUMBERS, BURST_WRITTEN, ROWS, ROW_NUMBERS,
+};
 
 extern "C" {
     fn ferrysprig_parse(
@@ -20,6 +22,25 @@ extern "C" {
         b: usize,
         n: usize,
     ) -> bool;
+    fn ferrysprig_burst_write(
+        capture: *const u8,
+        capture_len: usize,
+        place: usize,
+        rows: *mut i32,
+        rows_len: usize,
+        out: *mut u8,
+        out_len: usize,
+        answer: *mut BurstAnswer,
+    );
+    fn ferrysprig_burst_read(
+        burst: *const u8,
+        burst_len: usize,
+        rows: *mut i32,
+        rows_len: usize,
+        out: *mut u8,
+        out_len: usize,
+        answer: *mut BurstAnswer,
+    );
 }
 
 /// Parses the frame at byte `place` of `capture` into the lent `rows`; the answer, and the rows that it says were written.
@@ -51,4 +72,59 @@ pub fn range_eq(x: &[u8], a: usize, y: &[u8], b: usize, n: usize) -> bool {
     // SAFETY: each pointer and length is that of a slice that lives through the call. The function asks nothing more of its caller, writes
     // nowhere, and keeps no pointer; its answer is C's bool, which is Rust's.
     unsafe { ferrysprig_range_eq(x.as_ptr(), x.len(), a, y.as_ptr(), y.len(), b, n) }
+}
+
+/// Writes the frame at byte `place` of `capture` to the front of `out` as one burst; the answer, and the bytes that it says were written.
+pub fn burst_write<'a>(
+    capture: &[u8],
+    place: usize,
+    rows: &mut [i32],
+    out: &'a mut [u8],
+) -> (BurstAnswer, &'a [u8]) {
+    let mut answer = [0; BURST_ANSWER_NUMBERS];
+    // SAFETY: each pointer and length is that of a slice or an array that lives through the call; `rows`, `out` and `answer` are borrowed
+    // mutably, so nothing else refers to them. The function asks nothing more of its caller, writes only there, and keeps no pointer.
+    unsafe {
+        ferrysprig_burst_write(
+            capture.as_ptr(),
+            capture.len(),
+            place,
+            rows.as_mut_ptr(),
+            rows.len(),
+            out.as_mut_ptr(),
+            out.len(),
+            &mut answer,
+        );
+    }
+    (answer, written(&answer, out))
+}
+
+/// Writes the frame of `burst` to the front of `out`; the answer, and the bytes that it says were written.
+pub fn burst_read<'a>(
+    burst: &[u8],
+    rows: &mut [i32],
+    out: &'a mut [u8],
+) -> (BurstAnswer, &'a [u8]) {
+    let mut answer = [0; BURST_ANSWER_NUMBERS];
+    // SAFETY: as in `burst_write`.
+    unsafe {
+        ferrysprig_burst_read(
+            burst.as_ptr(),
+            burst.len(),
+            rows.as_mut_ptr(),
+            rows.len(),
+            out.as_mut_ptr(),
+            out.len(),
+            &mut answer,
+        );
+    }
+    (answer, written(&answer, out))
+}
+
+/// What an answer about a burst says was written. (That the count fits is proved, as in `parse`.)
+fn written<'a>(answer: &BurstAnswer, out: &'a [u8]) -> &'a [u8] {
+    usize::try_from(answer[BURST_WRITTEN])
+        .ok()
+        .and_then(|count| out.get(..count))
+        .expect("libferrysprig.a wrote more bytes than there is room for")
 }

@@ -2,6 +2,7 @@
 
 mod files;
 
+use ferrysprig::burst::{self, Refusal};
 use ferrysprig::{parse, MOST_BYTES, MOST_ROWS, NAMES, REFUSALS, ROW_NUMBERS};
 use files::text;
 
@@ -44,7 +45,20 @@ fn texts_are_those_of_the_header() {
     assert_eq!(table("FERRYSPRIG_NAMES")[1..], NAMES);
     let meanings = table("FERRYSPRIG_MEANINGS");
     assert_eq!(meanings[0], "accepted");
-    assert_eq!(meanings[1..], *REFUSALS);
+    let (of_frames, of_bursts) = meanings[1..].split_at(REFUSALS.len());
+    assert_eq!(of_frames, REFUSALS);
+    let mut said = vec![""; of_bursts.len()];
+    for refusal in [
+        Refusal::NotABurst,
+        Refusal::WrongWords,
+        Refusal::WrongLength,
+        Refusal::NotZero,
+        Refusal::OtherBsmod,
+        Refusal::NoRoom,
+    ] {
+        said[usize::from(refusal.number()) - 1 - REFUSALS.len()] = refusal.meaning();
+    }
+    assert_eq!(of_bursts, said);
 }
 
 #[test]
@@ -52,6 +66,7 @@ fn numbers_are_those_of_the_header() {
     assert_eq!(ROW_NUMBERS, number("FERRYSPRIG_ROW_NUMBERS"));
     assert_eq!(MOST_ROWS, number("FERRYSPRIG_MOST_ROWS"));
     assert_eq!(MOST_BYTES, number("FERRYSPRIG_MOST_BYTES"));
+    assert_eq!(burst::BYTES, number("FERRYSPRIG_BURST_BYTES"));
     let proved = text("crates/ac3/specs/RowBound.antt");
     assert!(proved.contains(&format!("\nmostRows = {MOST_ROWS}\n")));
     let version = env!("CARGO_PKG_VERSION");

@@ -7,6 +7,8 @@ ghost use Rattle.bits.specs.Bits.{rangeEq};
 ghost use Rattle.ac3.specs.Frame as frame;
 ghost use Rattle.ac3.specs.Promise.{call};
 ghost use Rattle.ac3.specs.RowBound.{mostRows};
+ghost use Rattle.burst.specs.Answers as bursts;
+ghost use Rattle.ferrysprig.specs.Bursts.{burstNumbers, burstTold};
 ghost use Rattle.ferrysprig.specs.Numbers.{flag, answerNumbers, told};
 ghost use Rattle.ferrysprig.specs.Promise.{PromisedNumbers};
 
@@ -88,4 +90,39 @@ pub extern "C" fn ferrysprig_range_eq(x: &[u8], a: usize, y: &[u8], b: usize, n:
     ensures { λ r. ⌜ r ≡ rangeEq (now (x .entry)) a (now (y .entry)) b n ⌝ }
 {
     bits::range_eq(x, a, y, b, n)
+}
+
+// The three numbers of an answer about a burst.
+fn burst_numbers(a: burst::Answer) -> [i32; 3]
+    requires { ⌜ a .rows ≤ mostRows ⌝ }
+    ensures { λ r. ⌜ r ≡ burstNumbers a ⌝ }
+{
+    [wide(a.refusal as u16), row_count(a.rows), wide(a.bytes)]
+}
+
+// Writes the frame at a place of a capture as one IEC 61937 burst of 6,144 bytes, and the answer's numbers.
+#[no_mangle]
+pub extern "C" fn ferrysprig_burst_write(
+    capture: &[u8],
+    place: usize,
+    rows: &mut [i32],
+    out: &mut [u8],
+    answer: &mut [i32; 3],
+)
+    ensures { λ _. ⌜ (now (answer .exit), (now (rows .exit), now (out .exit))) ≡ burstTold (bursts.written (now (capture .entry)) place (now (rows .entry)) (now (out .entry))) ⌝ }
+{
+    *answer = burst_numbers(burst::burst_write(capture, place, rows, out));
+}
+
+// Writes the frame of an IEC 61937 burst, and the answer's numbers.
+#[no_mangle]
+pub extern "C" fn ferrysprig_burst_read(
+    burst: &[u8],
+    rows: &mut [i32],
+    out: &mut [u8],
+    answer: &mut [i32; 3],
+)
+    ensures { λ _. ⌜ (now (answer .exit), (now (rows .exit), now (out .exit))) ≡ burstTold (bursts.read (now (burst .entry)) (now (rows .entry)) (now (out .entry))) ⌝ }
+{
+    *answer = burst_numbers(burst::burst_read(burst, rows, out));
 }

@@ -1,0 +1,6 @@
+pub mod Written
+pub mod Framed
+pub mod Judged
+pub mod Words
+pub mod Bursts
+pub mod Few

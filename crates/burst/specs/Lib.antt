@@ -1,0 +1,4 @@
+pub mod Burst
+pub mod Answers
+pub mod Framed
+pub mod Bursts

@@ -1,0 +1,3 @@
+pub mod Look
+pub mod Found
+pub mod Opening

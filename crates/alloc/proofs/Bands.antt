@@ -2,7 +2,7 @@
 use mathlib.Core.Path.{_≡_, _∙_, refl, ap, sym}
 use mathlib.Core.Bool.{Bool, true, cond, _&&_}
 use mathlib.Core.List.{List, [], _∷_}
-use Prim.Native.Nat.{ℕ, zero, suc, _+_, _-_, _≤_, _<_, min, max, suc-le-suc}
+use Prim.Native.Nat.{ℕ, zero, suc, _+_, _-_, _/_, _≤_, _<_, min, max, suc-le-suc}
 use native.Mathlib.Decide.{ℕ-discrete, decLt}
 use native.Mathlib.Nat.{add-zero, zero-add, le-refl, le-of-suc-le-suc, not-suc-le-zero}
 use native.Mathlib.Numerals.{add-one}
@@ -62,21 +62,9 @@ start-zero : startOf 0 ≡ 0
 unfolding startOf
 start-zero = refl
 
-pub last-end : endOf 49 ≡ 253
-unfolding bandEnd endOf
-last-end = refl
-
 pub last-start : startOf 50 ≡ 253
 unfolding bandEnd startOf
 last-start = refl
-
--- a band that ends at or before a bin is not the last one
-pub not-last : (bin band : ℕ) → band < 50 → endOf band ≤ bin → bin < 253 → band < 49
-not-last bin band h p q = by (ℕ-discrete band 49)
-  where
-    by : Dec (band ≡ 49) → band < 49
-    by (yes same) = omega (arith, last-end, ap endOf same)
-    by (no other) = omega arith
 
 pub start-mono : (j k : ℕ) → j ≤ k → k ≤ 50 → startOf j ≤ startOf k
 start-mono j zero p h = let e : j ≡ 0 = omega arith in rw e (le-refl _)
@@ -137,9 +125,18 @@ in-order a b j k p q h = by (decLt k j)
     by (yes less) = absurd (omega (arith, start-mono (k + 1) j (omega arith) (omega arith), start-after k))
     by (no more) = omega arith
 
--- every bin has its band, by one computed test
+-- the band of a bin by the ranges
+unfoldable pub ranged : (bin : ℕ) → ℕ
+ranged bin =
+    cond (ltb bin 28) bin
+    (cond (ltb bin 49) (28 + (bin - 28) / 3)
+    (cond (ltb bin 85) (35 + (bin - 49) / 6)
+    (cond (ltb bin 133) (41 + (bin - 85) / 12)
+    (45 + (bin - 133) / 24))))
+
+-- the ranges are those of the table, by one computed test over all bins
 abbrev contained : ℕ → Bool
-contained bin = ltb (bandOf bin) 50 && (leb (startOf (bandOf bin)) bin && ltb bin (endOf (bandOf bin)))
+contained bin = ltb (ranged bin) 50 && (leb (startOf (ranged bin)) bin && ltb bin (endOf (ranged bin)))
 
 abbrev all-contained : ℕ → Bool
 all-contained zero = true
@@ -154,19 +151,21 @@ contained-at (suc n) t bin h = by (contained-at n (both-right (contained n) (all
     by before (no other) = before (omega arith)
 
 test : T (all-contained 253)
-unfolding bandEnd bandOf startOf endOf
+unfolding bandEnd ranged startOf endOf
 test = tt
 
-pub band-of : (bin : ℕ) → bin < 253 → InBand bin (bandOf bin)
-band-of bin h =
+pub ranged-in : (bin : ℕ) → bin < 253 → InBand bin (ranged bin)
+ranged-in bin h =
     let t = contained-at 253 test bin h in
-    let rest = both-right (ltb (bandOf bin) 50) (leb (startOf (bandOf bin)) bin && ltb bin (endOf (bandOf bin))) t in
-    record {
-      is = refl;
-      small = ltb→lt (bandOf bin) 50 (both-left (ltb (bandOf bin) 50) (leb (startOf (bandOf bin)) bin && ltb bin (endOf (bandOf bin))) t);
-      low = leb→le (startOf (bandOf bin)) bin (both-left (leb (startOf (bandOf bin)) bin) (ltb bin (endOf (bandOf bin))) rest);
-      high = ltb→lt bin (endOf (bandOf bin)) (both-right (leb (startOf (bandOf bin)) bin) (ltb bin (endOf (bandOf bin))) rest);
-    }
+    let rest = both-right (ltb (ranged bin) 50) (leb (startOf (ranged bin)) bin && ltb bin (endOf (ranged bin))) t in
+    in-band bin (ranged bin)
+    (ltb→lt (ranged bin) 50 (both-left (ltb (ranged bin) 50) (leb (startOf (ranged bin)) bin && ltb bin (endOf (ranged bin))) t))
+    (leb→le (startOf (ranged bin)) bin (both-left (leb (startOf (ranged bin)) bin) (ltb bin (endOf (ranged bin))) rest))
+    (ltb→lt bin (endOf (ranged bin)) (both-right (leb (startOf (ranged bin)) bin) (ltb bin (endOf (ranged bin))) rest))
+
+-- so every bin has its band
+pub band-of : (bin : ℕ) → bin < 253 → InBand bin (bandOf bin)
+band-of bin h = let r = ranged-in bin h in rw (← r .is) r
 
 -- ---- levels of bands
 

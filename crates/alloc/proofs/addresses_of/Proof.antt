@@ -22,6 +22,20 @@ use Rattle.alloc.proofs.addresses_of.Tie as tie
 abbrev limits : tie.Start → ℕ → ℤ
 limits s = thresholdsOf (s .args .exponents .now) (s .args .p)
 
+-- the bands of the first bin and of the last one
+module _ (c : tie.After-masktab2) where
+  abbrev given : tie.Start
+  given = c .before .before .before .before
+
+  some : given .args .p .start < given .args .p .end
+  some = c .before .before .before .if1 .left
+
+  first-band : InBand (given .args .p .start) (c .before .masktab .result)
+  first-band = c .before .masktab .ensures .0 (omega (arith, some, given .pre .1 .end))
+
+  last-band : InBand (given .args .p .end - 1) (c .masktab2 .result)
+  last-band = c .masktab2 .ensures .0 (omega (arith, some, given .pre .1 .end))
+
 -- a bin of the range has its step
 module _ (c : tie.After-steps-by-bin) where
   abbrev made : tie.After-band-steps
@@ -31,23 +45,20 @@ module _ (c : tie.After-steps-by-bin) where
   ended = made .before .before
 
   abbrev begin : tie.Start
-  begin = ended .before .before .before .before .before .before
+  begin = given ended
 
   abbrev p : Parameters
   p = begin .args .p
-
-  some : p .start < p .end
-  some = ended .before .before .before .before .before .if1 .left
 
   module _ (bin : ℕ) (from : p .start ≤ bin) (to : bin < p .end) where
     band : InBand bin (bandOf bin)
     band = band-of bin (omega (arith, begin .pre .1 .end))
 
-    after-first : ended .before .before .masktab .result ≤ bandOf bin
-    after-first = in-order (p .start) bin _ _ (ended .before .before .masktab .ensures) band from
+    after-first : ended .before .masktab .result ≤ bandOf bin
+    after-first = in-order (p .start) bin _ _ (first-band ended) band from
 
     before-last : bandOf bin ≤ ended .masktab2 .result
-    before-last = in-order bin (p .end - 1) _ _ band (ended .masktab2 .ensures) (omega arith)
+    before-last = in-order bin (p .end - 1) _ _ band (last-band ended) (omega arith)
 
     step-is : at (c .steps-by-bin .last .0) bin ≡ stepOf (limits begin (bandOf bin))
     step-is =
@@ -60,7 +71,7 @@ module _ (c : tie.After-steps-by-bin) where
         let first = after-first in
         let last = before-last in
         below-is step-is
-        (step-below (begin .args .exponents .now) p (bandOf bin) (omega (arith, ended .before .before .masktab .ensures .is)) (omega (arith, ended .masktab2 .ensures .is)) (begin .pre .1 .floor))
+        (step-below (begin .args .exponents .now) p (bandOf bin) (omega (arith, first-band ended .is)) (omega (arith, last-band ended .is)) (begin .pre .1 .floor))
 
 -- and its address, and the pointer there
 module _ (c : tie.After-addresses) (bin : ℕ) (from : p (c .before .before) .start ≤ bin) (to : bin < p (c .before .before) .end) where
@@ -98,22 +109,22 @@ addresses-of-spec =
     (λ c κs. search needs)
     (λ c. search needs)
     (λ c κs. search needs)
-    (λ c. search needs)
+    (λ c. omega (arith, last-band c .small))
     (λ c κs.
-    let s = c .before .before .before .before .before .before .before in
+    let s = given (c .before) in
     let one : c .before .masktab2 .result + 1 - 1 ≡ c .before .masktab2 .result = omega arith in (
-      c .before .before .before .before .before .band-ends .ensures,
-      c .before .before .before .masktab .ensures,
-      rw one (c .before .masktab2 .ensures),
+      c .before .before .before .band-ends .ensures,
+      first-band (c .before),
+      rw one (last-band (c .before)),
       omega arith,
-      omega arith,
+      some (c .before),
       s .pre .1,
       s .pre .2,
     ))
     (λ c κs. search needs)
     (λ c κs.
     let s = begin (c .before) in
-    (c .before .steps-by-bin .ensures .0, omega (arith, some (c .before)), omega (arith, s .pre .1 .end), s .pre .2, step-small (c .before)))
+    (c .before .steps-by-bin .ensures .0, omega (arith, some (ended (c .before))), omega (arith, s .pre .1 .end), s .pre .2, step-small (c .before)))
     (λ c.
     let s = begin (c .before .before) in
     (address c, pointers-are (s .args .exponents .now) (s .args .p) (bapAt (c .addresses .last .0)) (pointer-is c))))

@@ -2,12 +2,12 @@
 mod audio;
 mod block;
 
-use blocks::AllocState;
-use blocks::Coupling;
-use blocks::Cover;
 use channels::Bandwidths;
 use header::Header;
 use header::info;
+use slots::AllocState;
+use slots::Coupling;
+use slots::Cover;
 use syntax::Cursor;
 use syntax::START;
 ghost use mathlib.Core.Path.{_≡_};

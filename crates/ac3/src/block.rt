@@ -9,7 +9,7 @@ use channels::strategies::channel_ends;
 use channels::strategies::exponent_strategies;
 use exponents::exponents;
 use header::Header;
-use header::info::programmes;
+use header::programmes;
 use mantissas::mantissas;
 use parameters::curve::curve;
 use parameters::delta::deltas;

@@ -1,10 +1,10 @@
--- `header::info::programme_infos` meets its contract: the invariant says which programmes are left. Assumes nothing.
+-- `header::programme_infos` meets its contract: the invariant says which programmes are left. Assumes nothing.
 use Prim.Native.Nat.{_-_}
 use borrow.Author.Needs.{needs}
 use Rattle.syntax.proofs.Sequence.{Turns, begins, turn, ends}
 use Rattle.header.specs.Header.{programmeInfo}
-use Rattle.header.proofs.info.programme_infos.Statement.{statement}
-use Rattle.header.proofs.info.programme_infos.Tie as tie
+use Rattle.header.proofs.programme_infos.Statement.{statement}
+use Rattle.header.proofs.programme_infos.Tie as tie
 
 abbrev Inv-loop : tie.InvT-loop
 Inv-loop s rows₀ acmod last cursor₀ p₀ rows cursor p = Turns (λ i _. programmeInfo i) 0 last tt s cursor₀ rows₀ p tt cursor rows

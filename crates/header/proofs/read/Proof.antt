@@ -1,9 +1,9 @@
--- `header::info::header` meets its contract: where syncinfo refused, what is left stays unread. Assumes nothing.
+-- `header::read` meets its contract: where syncinfo refused, what is left stays unread. Assumes nothing.
 use native.Mathlib.Omega.{arith}
 use Rattle.syntax.proofs.Sequence.{then, stopped}
 use Rattle.header.specs.Header.{header}
-use Rattle.header.proofs.info.header.Statement.{statement}
-use Rattle.header.proofs.info.header.Tie as tie
+use Rattle.header.proofs.read.Statement.{statement}
+use Rattle.header.proofs.read.Tie as tie
 
 early : tie.Need-returns
 unfolding header
@@ -20,8 +20,8 @@ reads c =
     let t1 = t2 .before .before .before .before .before .before in
     (then _ (t1 .syncinfo .ensures .0) (t2 .bsi .ensures .0), t2 .bsi .ensures .1)
 
-pub header-spec : {M : Type 1} → statement M
-header-spec =
+pub read-spec : {M : Type 1} → statement M
+read-spec =
     tie.close
     (tie.spec
     (λ c κs. tt)  -- syncinfo-requires

@@ -1,12 +1,12 @@
--- `header::info::programme_info` meets its contract: a `then` for each call. Assumes nothing.
+-- `header::programme_info` meets its contract: a `then` for each call. Assumes nothing.
 use native.Mathlib.Omega.{arith}
 use lib.Dec.{lit≤}
 use borrow.Author.Needs.{needs}
 use Rattle.syntax.proofs.Sequence.{then}
 use Rattle.syntax.proofs.Under.{under}
 use Rattle.header.specs.Header.{programmeInfo}
-use Rattle.header.proofs.info.programme_info.Statement.{statement}
-use Rattle.header.proofs.info.programme_info.Tie as tie
+use Rattle.header.proofs.programme_info.Statement.{statement}
+use Rattle.header.proofs.programme_info.Tie as tie
 
 reads : tie.Need-returns
 unfolding programmeInfo

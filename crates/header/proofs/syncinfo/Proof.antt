@@ -1,4 +1,4 @@
--- `header::info::syncinfo` meets its contract: a `then` for each call; a frame that has bytes has one of the three sample rates. Assumes nothing.
+-- `header::syncinfo` meets its contract: a `then` for each call; a frame that has bytes has one of the three sample rates. Assumes nothing.
 use mathlib.Core.Path.{refl, _∙_}
 use mathlib.Core.List.{[]}
 use lib.Dec.{lit<, lit≤}
@@ -8,8 +8,8 @@ use Rattle.syntax.proofs.Sequence.{then, judged, finished, stopped}
 use Rattle.syntax.proofs.Going.{going}
 use Rattle.header.specs.Header.{syncinfo}
 use Rattle.header.proofs.Rate.{rated}
-use Rattle.header.proofs.info.syncinfo.Statement.{statement}
-use Rattle.header.proofs.info.syncinfo.Tie as tie
+use Rattle.header.proofs.syncinfo.Statement.{statement}
+use Rattle.header.proofs.syncinfo.Tie as tie
 
 early : tie.Need-returns
 unfolding syncinfo

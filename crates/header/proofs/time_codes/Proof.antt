@@ -1,9 +1,9 @@
--- `header::info::time_codes` meets its contract: a `then` for each call. Assumes nothing.
+-- `header::time_codes` meets its contract: a `then` for each call. Assumes nothing.
 use lib.Dec.{lit≤}
 use Rattle.syntax.proofs.Sequence.{then}
 use Rattle.header.specs.Header.{timeCodes}
-use Rattle.header.proofs.info.time_codes.Statement.{statement}
-use Rattle.header.proofs.info.time_codes.Tie as tie
+use Rattle.header.proofs.time_codes.Statement.{statement}
+use Rattle.header.proofs.time_codes.Tie as tie
 
 reads : tie.Need-returns
 unfolding timeCodes

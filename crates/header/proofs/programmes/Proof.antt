@@ -1,8 +1,8 @@
--- `header::info::programmes` meets its contract. Assumes nothing.
+-- `header::programmes` meets its contract. Assumes nothing.
 use borrow.Author.Tests.{eq-eqb, ne-eqb}
 use borrow.Author.Needs.{needs}
-use Rattle.header.proofs.info.programmes.Statement.{statement}
-use Rattle.header.proofs.info.programmes.Tie as tie
+use Rattle.header.proofs.programmes.Statement.{statement}
+use Rattle.header.proofs.programmes.Tie as tie
 
 pub programmes-spec : {M : Type 1} → statement M
 programmes-spec =

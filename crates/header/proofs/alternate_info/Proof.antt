@@ -1,10 +1,10 @@
--- `header::info::alternate_info` meets its contract: a flag and the lines under it, twice. Assumes nothing.
+-- `header::alternate_info` meets its contract: a flag and the lines under it, twice. Assumes nothing.
 use lib.Dec.{lit≤}
 use Rattle.syntax.proofs.Sequence.{then}
 use Rattle.syntax.proofs.Under.{under}
 use Rattle.header.specs.Header.{alternateInfo}
-use Rattle.header.proofs.info.alternate_info.Statement.{statement}
-use Rattle.header.proofs.info.alternate_info.Tie as tie
+use Rattle.header.proofs.alternate_info.Statement.{statement}
+use Rattle.header.proofs.alternate_info.Tie as tie
 
 reads : tie.Need-returns
 unfolding alternateInfo

@@ -1,10 +1,10 @@
--- `header::info::additional_info` meets its contract: the flag says whether the span is there. Assumes nothing.
+-- `header::additional_info` meets its contract: the flag says whether the span is there. Assumes nothing.
 use lib.Dec.{lit≤}
 use borrow.Author.Needs.{needs}
 use Rattle.syntax.proofs.Sequence.{then, finished}
 use Rattle.header.specs.Header.{additionalInfo}
-use Rattle.header.proofs.info.additional_info.Statement.{statement}
-use Rattle.header.proofs.info.additional_info.Tie as tie
+use Rattle.header.proofs.additional_info.Statement.{statement}
+use Rattle.header.proofs.additional_info.Tie as tie
 
 present : tie.Need-returns
 unfolding additionalInfo

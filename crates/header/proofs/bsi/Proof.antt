@@ -1,11 +1,11 @@
--- `header::info::bsi` meets its contract: a `then` for each call. Assumes nothing.
+-- `header::bsi` meets its contract: a `then` for each call. Assumes nothing.
 use native.Mathlib.Omega.{arith}
 use mathlib.Core.Path.{refl}
 use lib.Dec.{lit<, lit≤}
 use Rattle.syntax.proofs.Sequence.{then, judged, finished}
 use Rattle.header.specs.Header.{bsi}
-use Rattle.header.proofs.info.bsi.Statement.{statement}
-use Rattle.header.proofs.info.bsi.Tie as tie
+use Rattle.header.proofs.bsi.Statement.{statement}
+use Rattle.header.proofs.bsi.Tie as tie
 
 reads : tie.Need-returns
 unfolding bsi

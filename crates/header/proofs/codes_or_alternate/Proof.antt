@@ -1,8 +1,8 @@
--- `header::info::codes_or_alternate` meets its contract: bsid says which of the two is read. Assumes nothing.
+-- `header::codes_or_alternate` meets its contract: bsid says which of the two is read. Assumes nothing.
 use borrow.Author.Tests.{eq-eqb, ne-eqb}
 use borrow.Author.Needs.{needs}
-use Rattle.header.proofs.info.codes_or_alternate.Statement.{statement}
-use Rattle.header.proofs.info.codes_or_alternate.Tie as tie
+use Rattle.header.proofs.codes_or_alternate.Statement.{statement}
+use Rattle.header.proofs.codes_or_alternate.Tie as tie
 
 pub codes-or-alternate-spec : {M : Type 1} → statement M
 codes-or-alternate-spec =

@@ -41,7 +41,7 @@ def expected(answer, data, room):
     return [count, bit, checksum(rows), 0, size] + rest
 
 
-CRATES = ("bits", "syntax", "tables", "alloc", "blocks", "exponents", "mantissas", "header", "channels", "ac3")
+CRATES = ("bits", "syntax", "tables", "alloc", "slots", "parameters", "exponents", "mantissas", "header", "channels", "ac3")
 
 
 def used(start):

@@ -1,7 +1,7 @@
 -- What a frame starts from is within the bounds that its blocks keep. Assumes nothing.
 use native.Mathlib.Omega.{arith}
-use Rattle.blocks.specs.Sound.{SoundExps}
-use Rattle.blocks.proofs.Entries.{exps-none, deltas-none}
+use Rattle.slots.specs.Sound.{SoundExps}
+use Rattle.slots.proofs.Entries.{exps-none, deltas-none}
 use Rattle.channels.proofs.Bounds.{zeros}
 use Rattle.ac3.specs.Frame.{unsent, unread}
 use Rattle.ac3.specs.Sound.{SoundState}

@@ -10,8 +10,8 @@ use Rattle.syntax.specs.Place.{except, exec, andThen, flatten, landing, finish}
 use Rattle.syntax.specs.Run.{roomCheck, check, sum, unless, run, continue}
 use Rattle.tables.specs.Tables.{nfchans, words48, words44, words32, frameBytes, slowDecay, fastDecay, slowGain, knee, floor, fastGain, bandEnd, logAdd, hearing, bap, bapBits}
 use Rattle.alloc.specs.Allocation.{from, placed, snrOffset, psdOf, mappedPsd, logadd, bandSum, bandOf, startOf, endOf, bandPsd, integratedPsd, lowcomp, lowAfter, rises, startLeak, fallTo, fallBy, fallLeak, leakStep, excitations, excitation, overKnee, maskOf, maskingCurve, deltaOf, passed, deltaIn, deltaSum, deltaApplied, kept, threshold, thresholds, addressOf, bapOf, pointers as Allocation-pointers, allocation}
-use Rattle.blocks.specs.Delta.{deltaCode, channelCode, segment, newDeltas, slotDeltas, codedDeltas, deltas}
-use Rattle.blocks.specs.Parameters.{newCurve, curve, fineOffset, channelOffset, newOffsets, offsets, newLeak, couplingLeak}
+use Rattle.parameters.specs.Delta.{deltaCode, channelCode, segment, newDeltas, slotDeltas, codedDeltas, deltas}
+use Rattle.parameters.specs.Parameters.{newCurve, curve, fineOffset, channelOffset, newOffsets, offsets, newLeak, couplingLeak}
 use Rattle.exponents.specs.Exponents.{step, group, exponentSet, slotExponents, channelExponents, exponents}
 use Rattle.mantissas.specs.Mantissas.{silent, pointers as Mantissas-pointers, allPointers, widths, mantissas}
 use Rattle.mantissas.specs.Parts.{channelParts, parts}

@@ -11,9 +11,9 @@ use Rattle.syntax.specs.Grammar.{Grammar, done, _>>=_, _>>_, nth, oneRoled, tak
 use Rattle.syntax.specs.Names as Name
 use Rattle.header.specs.Header.{programmes}
 use Rattle.header.specs.declared.Header.{Header}
-use Rattle.blocks.specs.declared.AllocState.{AllocState}
-use Rattle.blocks.specs.Delta.{deltas}
-use Rattle.blocks.specs.Parameters.{curve, offsets, couplingLeak}
+use Rattle.slots.specs.declared.AllocState.{AllocState}
+use Rattle.parameters.specs.Delta.{deltas}
+use Rattle.parameters.specs.Parameters.{curve, offsets, couplingLeak}
 use Rattle.exponents.specs.Exponents.{Exponents, exponents}
 use Rattle.mantissas.specs.Mantissas.{mantissas}
 use Rattle.channels.specs.Coupling.{couplingStrategy, couplingCoordinates, rematrixing}

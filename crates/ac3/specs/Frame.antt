@@ -8,7 +8,7 @@ use Rattle.syntax.specs.Grammar.{Grammar, done, _>>=_, position, for}
 use Rattle.syntax.specs.Place.{Place, Outcome, got, no, exec, fresh}
 use Rattle.header.specs.Header.{header}
 use Rattle.header.specs.declared.Header.{Header}
-use Rattle.blocks.specs.Delta.{noDeltas}
+use Rattle.slots.specs.Slots.{noDeltas}
 use Rattle.ac3.specs.AudioBlock.{Carry, audioBlock}
 use Rattle.ac3.specs.declared.Answer.{Answer}
 use Rattle.ac3.specs.declared.Summary.{Summary}

@@ -10,8 +10,8 @@ use Rattle.tables.specs.Tables.{frameBytes}
 use Rattle.alloc.specs.Allocation.{logadd, snrOffset, bandOf, deltaOf}
 use Rattle.syntax.specs.Grammar.{_>>=_, _>>_, plain, framed}
 use Rattle.syntax.specs.Run.{sum, End, reached, refused, parse}
-use Rattle.blocks.specs.Slots.{subBands, firstCoupled, pastCoupled, pastChannel}
-use Rattle.blocks.specs.declared.Coupling.{Coupling}
+use Rattle.slots.specs.Slots.{subBands, firstCoupled, pastCoupled, pastChannel}
+use Rattle.slots.specs.declared.Coupling.{Coupling}
 use Rattle.channels.specs.Coupling.{newCoupling}
 use Rattle.exponents.specs.Exponents.{Unpacked, differences, group, groupCount}
 use Rattle.mantissas.specs.Mantissas.{noneOpen, widths}

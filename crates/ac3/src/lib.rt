@@ -2,12 +2,11 @@
 mod audio;
 mod block;
 
-use blocks::AllocState;
-use blocks::Coupling;
-use blocks::Cover;
 use channels::Bandwidths;
 use header::Header;
-use header::info;
+use slots::AllocState;
+use slots::Coupling;
+use slots::Cover;
 use syntax::Cursor;
 use syntax::START;
 ghost use mathlib.Core.Path.{_≡_};
@@ -84,7 +83,7 @@ fn refused(c: Cursor) -> Answer
 fn syncframe(s: &[u8], rows: &mut [i32]) -> Answer
     ensures { λ r. ⌜ (r, now (rows .exit)) ≡ grammar.answered (exec grammar.syncframe (now (s .entry)) (fresh (now (rows .entry)))) ⌝ }
 {
-    let head = info::header(s, rows, START);
+    let head = header::read(s, rows, START);
     let header = head.header;
     let cursor = head.cursor;
     if cursor.stop != 0 {

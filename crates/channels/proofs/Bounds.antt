@@ -2,7 +2,7 @@
 use Prim.Native.Nat.{ℕ, zero, suc, _<_}
 use mathlib.Core.List.{List, [], _∷_}
 use lib.ListN.{set, replicate}
-use Rattle.blocks.specs.Sound.{Entries}
+use Rattle.slots.specs.Sound.{Entries}
 
 pub zeros : (k : ℕ) {n : ℕ} → 0 < n → Entries (replicate k 0) n
 zeros zero h i = h

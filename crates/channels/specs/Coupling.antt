@@ -6,8 +6,8 @@ use lib.Dec.{eqb, ltb}
 use lib.ListN.{getD, replicate}
 use Rattle.syntax.specs.Grammar.{Grammar, done, _>>=_, _>>_, one, nth, take, flag, note, refuseIf, when, readIf, for, each, fill}
 use Rattle.syntax.specs.Names as Name
-use Rattle.blocks.specs.declared.Coupling.{Coupling}
-use Rattle.blocks.specs.Slots.{subBands, rangeEmpty, coupled}
+use Rattle.slots.specs.declared.Coupling.{Coupling}
+use Rattle.slots.specs.Slots.{subBands, rangeEmpty, coupled}
 
 unfoldable pub howMany : List Bool → ℕ
 howMany [] = 0

@@ -6,9 +6,9 @@ use lib.Dec.{ltb}
 use lib.ListN.{getD, set, replicate}
 use Rattle.syntax.specs.Grammar.{Grammar, done, _>>=_, _>>_, one, nth, take, refuseIf, readIf, for, fill}
 use Rattle.syntax.specs.Names as Name
-use Rattle.blocks.specs.declared.Coupling.{Coupling}
-use Rattle.blocks.specs.declared.Strategies.{Strategies}
-use Rattle.blocks.specs.Slots.{coupled, firstCoupled, pastChannel, isNew}
+use Rattle.slots.specs.declared.Coupling.{Coupling}
+use Rattle.slots.specs.declared.Strategies.{Strategies}
+use Rattle.slots.specs.Slots.{coupled, firstCoupled, pastChannel, isNew}
 use Rattle.channels.specs.declared.Bandwidths.{Bandwidths}
 
 unfoldable pub channelStrategies : (blk nfchans : ℕ) → Grammar (List ℕ)

@@ -1,5 +1,5 @@
 // The coupling strategy and coordinates of a block, and its rematrixing (4.3.3).
-use blocks::Coupling;
+use slots::Coupling;
 use syntax::Cursor;
 use syntax::Flagged;
 use syntax::NONE;
@@ -13,8 +13,8 @@ ghost use Prim.Native.Nat.{_<_, _≤_};
 ghost use lib.ListN.{replicate};
 ghost use Rattle.syntax.specs.Grammar as syntax;
 ghost use Rattle.syntax.specs.Reads.{Reads};
-ghost use Rattle.blocks.specs.Slots.{subBands};
-ghost use Rattle.blocks.specs.Sound.{SoundCoupling};
+ghost use Rattle.slots.specs.Slots.{subBands};
+ghost use Rattle.slots.specs.Sound.{SoundCoupling};
 ghost use Rattle.channels.specs.Coupling as grammar;
 ghost use Rattle.channels.specs.Sound.{SoundBands};
 

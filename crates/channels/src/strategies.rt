@@ -1,7 +1,7 @@
 // The exponent strategies of a block, and the bandwidths of its channels (4.3.3).
 use crate::Bandwidths;
-use blocks::Coupling;
-use blocks::Strategies;
+use slots::Coupling;
+use slots::Strategies;
 use syntax::Cursor;
 use syntax::elements::and_not;
 use syntax::elements::take_if;
@@ -12,7 +12,7 @@ ghost use Prim.Native.Nat.{ℕ, _<_, _≤_};
 ghost use lib.IntN.{ℤ};
 ghost use Rattle.syntax.specs.Grammar as syntax;
 ghost use Rattle.syntax.specs.Reads.{Reads};
-ghost use Rattle.blocks.specs.Sound.{Entries, SoundCoupling, SoundStrategies, SoundEnds};
+ghost use Rattle.slots.specs.Sound.{Entries, SoundCoupling, SoundStrategies, SoundEnds};
 ghost use Rattle.channels.specs.Strategies as grammar;
 ghost use Rattle.channels.specs.Sound.{SoundBandwidths};
 

@@ -6,7 +6,7 @@ use lib.ListN.{replicate}
 use Rattle.bits.specs.Bits.{bitAt, value}
 use Rattle.syntax.specs.Grammar.{_>>=_, _>>_, turns, framed}
 use Rattle.syntax.specs.Run.{reached, run, parse, unless, roomCheck, check}
-use Rattle.blocks.specs.Slots.{CPL}
+use Rattle.slots.specs.Slots.{CPL}
 use Rattle.exponents.specs.Exponents.{exponentSet, group, step}
 
 -- the coupling start value 13, doubled to 26, is not judged: a group of -2 0 0 makes 24 24 24 (group 2 * 5 + 2 = 12)

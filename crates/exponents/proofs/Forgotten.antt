@@ -9,7 +9,7 @@ use lib.IntN.{ℤ}
 use lib.ListN.{length, length-set, getD, set}
 use lib.Seq.{getD-set-same, getD-set-other}
 use borrow.Author.Tests.{eqb-true, eqb-false}
-use Rattle.blocks.specs.Forgotten.{nothing, Forgets}
+use Rattle.slots.specs.Forgotten.{nothing, Forgets}
 
 pub stays : {memos : List (List ℕ)} {exps : List (List ℤ)} → Forgets memos exps memos exps
 stays = record { long = refl; each = λ slot h. inl (refl, refl) }

@@ -9,10 +9,10 @@ use lib.Seq.{sets}
 use Rattle.syntax.specs.declared.Item.{Item}
 use Rattle.syntax.specs.Grammar.{Grammar, done, _>>=_, _>>_, nth, take, note, refuseIf, when, readIf, for}
 use Rattle.syntax.specs.Names as Name
-use Rattle.blocks.specs.Slots.{CPL, LFE, firstCoupled, pastCoupled, isNew}
-use Rattle.blocks.specs.declared.Coupling.{Coupling}
-use Rattle.blocks.specs.declared.Cover.{Cover}
-use Rattle.blocks.specs.declared.Strategies.{Strategies}
+use Rattle.slots.specs.Slots.{CPL, LFE, firstCoupled, pastCoupled, isNew}
+use Rattle.slots.specs.declared.Coupling.{Coupling}
+use Rattle.slots.specs.declared.Cover.{Cover}
+use Rattle.slots.specs.declared.Strategies.{Strategies}
 
 -- ---- one set, 6.1.3: a first exponent, and then differences, three to a group, each of them for 1, 2 or 4 bins
 

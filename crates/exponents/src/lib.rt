@@ -1,12 +1,12 @@
 // The exponents of a block (4.3.3, 6.1.3): for each slot a first exponent, and then differences, three to a group, each of
 // them for 1, 2 or 4 bins. `exponents` is public because the audio block stands in a crate above.
-use blocks::CPL;
-use blocks::Coupling;
-use blocks::Cover;
-use blocks::LFE;
-use blocks::Strategies;
-use blocks::first_coupled;
-use blocks::past_coupled;
+use slots::CPL;
+use slots::Coupling;
+use slots::Cover;
+use slots::LFE;
+use slots::Strategies;
+use slots::first_coupled;
+use slots::past_coupled;
 use syntax::Cursor;
 use syntax::Item;
 use syntax::Role;
@@ -21,9 +21,9 @@ ghost use lib.ListN.{length, replicate};
 ghost use lib.Seq.{sets};
 ghost use Rattle.syntax.specs.Grammar.{for, readIf};
 ghost use Rattle.syntax.specs.Reads.{Reads};
-ghost use Rattle.blocks.specs.Slots as slots;
-ghost use Rattle.blocks.specs.Forgotten.{nothing, Forgets};
-ghost use Rattle.blocks.specs.Sound.{SoundRow, SoundExps, Entries, SoundCoupling, SoundStrategies, SoundEnds};
+ghost use Rattle.slots.specs.Slots as slots;
+ghost use Rattle.slots.specs.Forgotten.{nothing, Forgets};
+ghost use Rattle.slots.specs.Sound.{SoundRow, SoundExps, Entries, SoundCoupling, SoundStrategies, SoundEnds};
 ghost use Rattle.exponents.specs.Exponents as grammar;
 ghost use Rattle.exponents.specs.AtHand.{Steps, Unmarked, NearThree, ThreeInside, AtHand};
 ghost use Rattle.exponents.specs.Sound.{SoundUnpacked};

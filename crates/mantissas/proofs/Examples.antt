@@ -4,8 +4,8 @@ use mathlib.Core.List.{[], _∷_}
 use mathlib.Core.Path.{_≡_, refl}
 use Rattle.tables.specs.Tables.{bapBits}
 use Rattle.syntax.specs.Run.{sum}
-use Rattle.blocks.specs.Slots.{CPL, LFE}
-use Rattle.blocks.specs.declared.Coupling.{Coupling}
+use Rattle.slots.specs.Slots.{CPL, LFE}
+use Rattle.slots.specs.declared.Coupling.{Coupling}
 use Rattle.mantissas.specs.Parts.{part, channelParts, parts}
 use Rattle.mantissas.specs.Mantissas.{widths, noneOpen}
 

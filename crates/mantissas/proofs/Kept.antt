@@ -12,8 +12,8 @@ use lib.ListN.{length-set, getD, set, replicate}
 use lib.Seq.{getD-set-same, getD-set-other}
 use borrow.Author.Tests.{eqb-true, eqb-false}
 use Rattle.alloc.proofs.Laws.{allocation-none, allocation-unsegmented}
-use Rattle.blocks.specs.Forgotten.{nothing, Forgets}
-use Rattle.blocks.specs.declared.AllocState.{AllocState}
+use Rattle.slots.specs.Forgotten.{nothing, Forgets}
+use Rattle.slots.specs.declared.AllocState.{AllocState}
 use Rattle.mantissas.specs.Counts.{noCounts, countedAll}
 use Rattle.mantissas.specs.Kept.{memoOf, parametersBy, pointersBy, countsIn, SameBasis, KeptOf, Kept}
 use Rattle.mantissas.specs.Mantissas.{deltasOf, parametersOf, pointers}

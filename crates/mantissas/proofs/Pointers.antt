@@ -10,7 +10,7 @@ use Rattle.tables.specs.Tables.{bap}
 use Rattle.alloc.specs.Allocation.{snrOffset, allocation, from}
 use Rattle.alloc.specs.Steps.{bapAt}
 use Rattle.alloc.proofs.Filled.{everywhere, cleared}
-use Rattle.blocks.specs.declared.AllocState.{AllocState}
+use Rattle.slots.specs.declared.AllocState.{AllocState}
 use Rattle.mantissas.specs.Counts.{between, Addresses, pointersAt, noPart}
 use Rattle.mantissas.specs.Mantissas.{partPointers, allPointers}
 use Rattle.mantissas.specs.declared.Part.{Part}

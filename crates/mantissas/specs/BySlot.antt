@@ -12,8 +12,8 @@ use Rattle.syntax.specs.declared.Role.the-variants.{Mantissas}
 use Rattle.syntax.specs.Grammar.{oneRoled}
 use Rattle.syntax.specs.Names as Name
 use Rattle.syntax.specs.Run.{spanning, Spot, reached, sum, row, run}
-use Rattle.blocks.specs.declared.AllocState.{AllocState}
-use Rattle.blocks.specs.declared.Coupling.{Coupling}
+use Rattle.slots.specs.declared.AllocState.{AllocState}
+use Rattle.slots.specs.declared.Coupling.{Coupling}
 use Rattle.mantissas.specs.Counts.{noCounts, countedAll, plus, widthOf, openAfter}
 use Rattle.mantissas.specs.Mantissas.{noneOpen, widths, silent, partPointers, allPointers, mantissas}
 use Rattle.mantissas.specs.Parts.{part, parts}

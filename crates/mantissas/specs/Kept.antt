@@ -8,7 +8,7 @@ use lib.ListN.{length, getD}
 use Rattle.tables.specs.Tables.{slowDecay, fastDecay, slowGain, fastGain, knee, floor}
 use Rattle.alloc.specs.Allocation.{snrOffset, allocation}
 use Rattle.alloc.specs.declared.Parameters.{Parameters}
-use Rattle.blocks.specs.declared.AllocState.{AllocState}
+use Rattle.slots.specs.declared.AllocState.{AllocState}
 use Rattle.mantissas.specs.Counts.{noCounts, countedAll}
 use Rattle.mantissas.specs.Mantissas.{leakOf}
 use Rattle.mantissas.specs.declared.Counts.{Counts}

@@ -13,12 +13,11 @@ use Rattle.alloc.specs.declared.Parameters.{Parameters}
 use Rattle.syntax.specs.declared.Role.the-variants.{Mantissas}
 use Rattle.syntax.specs.Grammar.{Grammar, done, _>>=_, _>>_, oneRoled, pieces, position, refuseIf}
 use Rattle.syntax.specs.Names as Name
-use Rattle.blocks.specs.Delta.{noDeltas}
-use Rattle.blocks.specs.Slots.{CPL, LFE}
-use Rattle.blocks.specs.declared.AllocState.{AllocState}
-use Rattle.blocks.specs.declared.Coupling.{Coupling}
-use Rattle.blocks.specs.declared.Deltas.{Deltas}
-use Rattle.blocks.specs.declared.Offsets.{Offsets}
+use Rattle.slots.specs.Slots.{CPL, LFE, noDeltas}
+use Rattle.slots.specs.declared.AllocState.{AllocState}
+use Rattle.slots.specs.declared.Coupling.{Coupling}
+use Rattle.slots.specs.declared.Deltas.{Deltas}
+use Rattle.slots.specs.declared.Offsets.{Offsets}
 use Rattle.mantissas.specs.Parts.{parts}
 use Rattle.mantissas.specs.declared.Part.{Part}
 

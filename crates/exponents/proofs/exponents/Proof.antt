@@ -4,8 +4,8 @@ use Prim.Native.Nat.{_-_, _<_}
 use native.Mathlib.Omega.{arith}
 use borrow.Author.Needs.{needs}
 use Rattle.syntax.proofs.Sequence.{Turns, begins, turn, ends, then}
-use Rattle.blocks.specs.Forgotten.{Forgets}
-use Rattle.blocks.specs.Sound.{SoundExps}
+use Rattle.slots.specs.Forgotten.{Forgets}
+use Rattle.slots.specs.Sound.{SoundExps}
 use Rattle.exponents.specs.Exponents.{exponents, channelExponents}
 use Rattle.exponents.proofs.Forgotten.{stays, after}
 use Rattle.exponents.proofs.exponents.Statement.{statement}

@@ -6,7 +6,7 @@ use borrow.Author.Needs.{needs}
 use borrow.Author.Tests.{eq-eqb, ne-eqb}
 use mir.Syntax.{w16}
 use mir.Facts.{toZ-pos}
-use Rattle.blocks.proofs.Entries.{zeros, row-set}
+use Rattle.slots.proofs.Entries.{zeros, row-set}
 use Rattle.exponents.proofs.first_exponent.Statement.{statement}
 use Rattle.exponents.proofs.first_exponent.Tie as tie
 

@@ -4,7 +4,7 @@ use mathlib.Core.Bool.{not}
 use borrow.Author.Needs.{needs}
 use borrow.Author.Tests.{eq-eqb, ne-eqb}
 use Rattle.syntax.proofs.Sequence.{then, judged, finished}
-use Rattle.blocks.proofs.Entries.{exps-set}
+use Rattle.slots.proofs.Entries.{exps-set}
 use Rattle.exponents.specs.Exponents.{slotExponents}
 use Rattle.exponents.proofs.Forgotten.{stays, renews}
 use Rattle.exponents.proofs.slot_exponents.Statement.{statement}

@@ -2,7 +2,7 @@
 use Prim.Native.Nat.{_+_}
 use borrow.Author.Needs.{needs}
 use lib.IntN.{pos}
-use Rattle.blocks.proofs.Entries.{sets-three, row-sets}
+use Rattle.slots.proofs.Entries.{sets-three, row-sets}
 use Rattle.exponents.specs.Exponents.{binsEach}
 use Rattle.exponents.proofs.spread.Statement.{statement}
 use Rattle.exponents.proofs.spread.Tie as tie

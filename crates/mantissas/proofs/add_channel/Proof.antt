@@ -5,7 +5,7 @@ use mathlib.Core.Logic.{⊎-elim}
 use mathlib.Core.Path.{_≡_}
 use native.Mathlib.Omega.{arith}
 use borrow.Author.Needs.{needs}
-use Rattle.blocks.specs.Slots.{coupled}
+use Rattle.slots.specs.Slots.{coupled}
 use Rattle.mantissas.proofs.InOrder.{first-coupled, not-first}
 use Rattle.mantissas.proofs.add_channel.Statement.{statement}
 use Rattle.mantissas.proofs.add_channel.Tie as tie

@@ -6,9 +6,9 @@ use native.Mathlib.Omega.{arith}
 use lib.ListN.{length, length-map, getD}
 use borrow.Author.Needs.{needs}
 use borrow.Author.Tests.{eq-eqb, ne-eqb}
-use Rattle.blocks.specs.Delta.{noDeltas}
-use Rattle.blocks.specs.Sound.{SoundSegments}
-use Rattle.blocks.proofs.Entries.{every-replicate}
+use Rattle.slots.specs.Slots.{noDeltas}
+use Rattle.slots.specs.Sound.{SoundSegments}
+use Rattle.slots.proofs.Entries.{every-replicate}
 use Rattle.mantissas.proofs.Between.{same-entry}
 use Rattle.mantissas.proofs.deltas_of.Statement.{statement}
 use Rattle.mantissas.proofs.deltas_of.Tie as tie

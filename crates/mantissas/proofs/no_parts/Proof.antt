@@ -2,7 +2,7 @@
 use mathlib.Core.Path.{refl}
 use borrow.Author.Needs.{needs}
 use Rattle.alloc.specs.Allocation.{from}
-use Rattle.blocks.proofs.Entries.{every-replicate}
+use Rattle.slots.proofs.Entries.{every-replicate}
 use Rattle.mantissas.specs.Counts.{SoundPart, noPart}
 use Rattle.mantissas.proofs.no_parts.Statement.{statement}
 use Rattle.mantissas.proofs.no_parts.Tie as tie

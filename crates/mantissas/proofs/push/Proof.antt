@@ -3,7 +3,7 @@ use mathlib.Core.Path.{_≡_, refl, sym, _∙_}
 use native.Mathlib.Omega.{arith}
 use lib.ListN.{length, length-map}
 use borrow.Author.Needs.{needs}
-use Rattle.blocks.proofs.Entries.{every-set}
+use Rattle.slots.proofs.Entries.{every-set}
 use Rattle.mantissas.specs.Counts.{SoundPart, noPart}
 use Rattle.mantissas.proofs.Between.{between-store}
 use Rattle.mantissas.proofs.push.Statement.{statement}

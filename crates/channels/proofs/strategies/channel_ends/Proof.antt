@@ -7,7 +7,7 @@ use lib.ListN.{replicate}
 use borrow.Author.Needs.{needs}
 use Rattle.syntax.specs.Grammar.{filling}
 use Rattle.syntax.proofs.Sequence.{Turns, begins, turn, ends, then, finished}
-use Rattle.blocks.specs.Sound.{SoundEnds}
+use Rattle.slots.specs.Sound.{SoundEnds}
 use Rattle.channels.specs.Strategies.{channelEnd, channelEnds}
 use Rattle.channels.proofs.Bounds.{zeros, stored}
 use Rattle.channels.proofs.strategies.channel_ends.Statement.{statement}

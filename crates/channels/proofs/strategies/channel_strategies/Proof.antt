@@ -6,7 +6,7 @@ use borrow.Author.Needs.{needs}
 use Rattle.syntax.specs.Grammar.{take, nth, filling}
 use Rattle.syntax.specs.Names as Name
 use Rattle.syntax.proofs.Sequence.{Turns, begins, turn, ends, then, finished}
-use Rattle.blocks.specs.Sound.{Entries}
+use Rattle.slots.specs.Sound.{Entries}
 use Rattle.channels.specs.Strategies.{channelStrategies}
 use Rattle.channels.proofs.Bounds.{zeros, stored}
 use Rattle.channels.proofs.strategies.channel_strategies.Statement.{statement}

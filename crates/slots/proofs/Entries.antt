@@ -1,0 +1,106 @@
+-- What holds of an entry of a list, or of what stands for one past the end, still holds after stores of what it holds of: so the bounds of
+-- arrays are kept. Assumes nothing.
+use Prim.Native.Nat.{ℕ, zero, suc, _+_, _*_, _<_}
+use native.Mathlib.Nat.{add-zero, add-suc, suc-add}
+use native.Mathlib.Omega.{arith}
+use mathlib.Core.Path.{_≡_, sym, _∙_}
+use mathlib.Core.List.{List, [], _∷_, _++_, append-assoc}
+use lib.Dec.{le→leb, lit<, lit≤}
+use lib.IntN.{ℤ, pos}
+use lib.Signed.{_≤ℤ_}
+use lib.ListN.{length, getD, set, replicate, length-replicate}
+use lib.Seq.{sets, getD-set-other}
+use Rattle.slots.specs.declared.Deltas.{Deltas}
+use Rattle.slots.specs.Slots.{noDeltas}
+use Rattle.slots.specs.Sound.{SoundRow, SoundExps, SoundCodes, SoundSegments, SoundDeltas}
+
+module _ {A : Type 0} (P : A → Type 0) (d : A) where
+  pub entry-set : (l : List A) (i j : ℕ) (v : A) → P (getD l i d) → P v → P (getD (set l j v) i d)
+  entry-set [] i j v h p = h
+  entry-set (a ∷ l) zero zero v h p = p
+  entry-set (a ∷ l) (suc i) zero v h p = h
+  entry-set (a ∷ l) zero (suc j) v h p = h
+  entry-set (a ∷ l) (suc i) (suc j) v h p = entry-set l i j v h p
+
+  pub entry-replicate : (n i : ℕ) (a : A) → P d → P a → P (getD (replicate n a) i d)
+  entry-replicate zero i a p q = p
+  entry-replicate (suc n) zero a p q = q
+  entry-replicate (suc n) (suc i) a p q = entry-replicate n i a p q
+
+  pub entry-sets : (n : ℕ) (l : List A) (i j : ℕ) (v : A) → P (getD l i d) → P v → P (getD (sets l j (replicate n v)) i d)
+  entry-sets zero l i j v h p = h
+  entry-sets (suc n) l i j v h p = entry-sets n (set l j v) i (suc j) v (entry-set l i j v h p) p
+
+  -- the same of every entry
+  pub every-set : (l : List A) → ((i : ℕ) → P (getD l i d)) → (j : ℕ) (v : A) → P v → (i : ℕ) → P (getD (set l j v) i d)
+  every-set l h j v p i = entry-set l i j v (h i) p
+
+  pub every-replicate : (n : ℕ) (a : A) → P d → P a → (i : ℕ) → P (getD (replicate n a) i d)
+  every-replicate n a p q i = entry-replicate n i a p q
+
+-- ---- stores in a row
+
+sets-append : {A : Type 0} (vs ws l : List A) (i j : ℕ) → i + length vs ≡ j → sets l i (vs ++ ws) ≡ sets (sets l i vs) j ws
+sets-append [] ws l i j e = rw (← e, add-zero i)
+sets-append (v ∷ vs) ws l i j e = sets-append vs ws (set l i v) (suc i) j (suc-add i (length vs) ∙ sym (add-suc i (length vs)) ∙ e)
+
+pub sets-three : {A : Type 0} (n : ℕ) (l : List A) (at : ℕ) (x y z : A)
+    → sets (sets (sets l at (replicate n x)) (at + n) (replicate n y)) (at + n + n) (replicate n z) ≡ sets l at (replicate n x ++ replicate n y ++ replicate n z)
+sets-three n l at x y z =
+    let xs = replicate n x in
+    let ys = replicate n y in
+    let zs = replicate n z in
+    rw (append-assoc xs ys zs)
+    (sym (sets-append xs (ys ++ zs) l at (at + n) (rw (length-replicate n x)) ∙ sets-append ys zs (sets l at xs) (at + n) (at + n + n) (rw (length-replicate n y))))
+
+-- ---- exponents
+
+-- what a set holds
+abbrev Exponent : ℤ → Type 0
+Exponent e = (pos 0 ≤ℤ e) × (e ≤ℤ pos 24)
+
+small : {n : ℕ} → n < 25 → Exponent (pos n)
+small {n} h = (record { le = le→leb 0 n (omega arith) }, record { le = le→leb n 24 (omega arith) })
+
+pub zeros : SoundRow (replicate 256 (pos 0))
+zeros bin = entry-replicate Exponent (pos 0) 256 bin (pos 0) (small (lit< tt)) (small (lit< tt))
+
+-- where a frame begins
+pub exps-none : SoundExps (replicate 7 (replicate 256 (pos 0)))
+exps-none slot = entry-replicate SoundRow [] 7 slot (replicate 256 (pos 0)) (λ bin. small (lit< tt)) zeros
+
+pub row-set : (row : List ℤ) (at e : ℕ) → SoundRow row → e < 25 → SoundRow (set row at (pos e))
+row-set row at e h k bin = entry-set Exponent (pos 0) row bin at (pos e) (h bin) (small k)
+
+pub row-sets : (row : List ℤ) (at n e : ℕ) {next : List ℤ} → next ≡ sets row at (replicate n (pos e)) → SoundRow row → e < 25 → SoundRow next
+row-sets row at n e q h k = rw q (λ bin. entry-sets Exponent (pos 0) n row bin at (pos e) (h bin) (small k))
+
+pub exps-set : (exps : List (List ℤ)) (slot : ℕ) (row : List ℤ) → SoundExps exps → SoundRow row → SoundExps (set exps slot row)
+exps-set exps slot row h k i = entry-set SoundRow [] exps i slot row (h i) k
+
+-- ---- delta segments
+
+pub codes-none : SoundCodes (replicate 24 0)
+codes-none n = entry-replicate (λ x. x < 8) 0 24 (n * 3 + 2) 0 (lit< tt) (lit< tt)
+
+-- of the three stores of a segment only the last meets a code
+pub codes-set : (l : List ℕ) (seg offset len code : ℕ) → SoundCodes l → code < 8
+    → SoundCodes (set (set (set l (seg * 3) offset) (seg * 3 + 1) len) (seg * 3 + 2) code)
+codes-set l seg offset len code h k n =
+    let first = set l (seg * 3) offset in
+    let kept : getD (set first (seg * 3 + 1) len) (n * 3 + 2) 0 < 8 =
+    rw (getD-set-other first (seg * 3 + 1) (n * 3 + 2) len 0 (λ e. omega arith), getD-set-other l (seg * 3) (n * 3 + 2) offset 0 (λ e. omega arith)) (h n) in
+    entry-set (λ x. x < 8) 0 (set first (seg * 3 + 1) len) (n * 3 + 2) (seg * 3 + 2) code kept k
+
+none : SoundSegments noDeltas
+none = record { count = lit≤ tt; codes = codes-none }
+
+-- where a frame begins
+pub deltas-none : SoundDeltas (replicate 7 noDeltas)
+deltas-none i = entry-replicate SoundSegments noDeltas 7 i noDeltas none none
+
+pub deltas-set : (l : List Deltas) (slot : ℕ) (d : Deltas) → SoundDeltas l → SoundSegments d → SoundDeltas (set l slot d)
+deltas-set l slot d h k i = entry-set SoundSegments noDeltas l i slot d (h i) k
+
+pub deltas-cleared : (l : List Deltas) (slot : ℕ) → SoundDeltas l → SoundDeltas (set l slot noDeltas)
+deltas-cleared l slot h = deltas-set l slot noDeltas h none

@@ -1,0 +1,4 @@
+pub mod Slots
+pub mod Announced
+pub mod Forgotten
+pub mod Sound

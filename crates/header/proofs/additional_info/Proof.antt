@@ -10,26 +10,29 @@ present : tie.Need-returns
 unfolding additionalInfo
 present c =
     let t3 = c .before in
-    let t2 = t3 .before .before .before .before in
-    let t1 = t2 .before .before .before .before in
-    then _ (t1 .flag .ensures)
-    (rw (t2 .before .before .if1 .taken)
-    (then _ (t2 .take .ensures .0)
-    (t3 .pass .ensures _)))
+    let t2 = t3 .before .before .before .before .before in
+    let t1 = t2 .before .before .before .before .before in
+    then _ (rw (t1 .before .plain .ensures) at (t1 .flag .ensures))
+    (rw (t2 .before .before .before .if1 .taken)
+    (then _ (rw (t2 .before .plain2 .ensures) at (t2 .take .ensures .0))
+    (rw (t3 .before .before .roled .ensures) at (t3 .pass .ensures (t1 .before .before .before .before .args .s .now)))))
 
 absent : tie.Need-returns-2
 unfolding additionalInfo
 absent c =
     let t1 = c .before .before .before in
-    then _ (t1 .flag .ensures)
+    then _ (rw (t1 .before .plain .ensures) at (t1 .flag .ensures))
     (rw (c .before .if1 .left) finished)
 
 pub additional-info-spec : {M : Type 1} → statement M
 additional-info-spec =
     tie.close
     (tie.spec
+    (λ c κs. tt)  -- plain-requires
     (λ c κs. tt)  -- flag-requires
+    (λ c κs. tt)  -- plain-requires-2
     (λ c κs. lit≤ tt)  -- take-requires
+    (λ c κs. tt)  -- roled-requires
     (λ c. search needs)  -- cast-pass
     (λ c. search needs)  -- add-pass
     (λ c. search needs)  -- mul-pass

@@ -1,11 +1,11 @@
 // audblk (4.3.3): the sections of a block in the order of the syntax table.
 use crate::State;
 use crate::Tally;
-use channels::coupling::coupling_coordinates;
+use channels::coordinates::coupling_coordinates;
 use channels::coupling::coupling_strategy;
-use channels::coupling::rematrixing;
-use channels::strategies::bandwidths;
-use channels::strategies::channel_ends;
+use channels::ends::bandwidths;
+use channels::ends::channel_ends;
+use channels::rematrixing::rematrixing;
 use channels::strategies::exponent_strategies;
 use exponents::exponents;
 use header::Header;

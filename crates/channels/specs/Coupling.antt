@@ -7,6 +7,7 @@ use lib.ListN.{getD, replicate}
 use Rattle.syntax.specs.Grammar.{Grammar, done, _>>=_, _>>_, one, nth, take, flag, note, refuseIf, when, readIf, for, each, fill}
 use Rattle.syntax.specs.Names as Name
 use Rattle.slots.specs.declared.Coupling.{Coupling}
+use Rattle.slots.specs.Announced.{announced}
 use Rattle.slots.specs.Slots.{subBands, rangeEmpty, coupled}
 
 unfoldable pub howMany : List Bool → ℕ
@@ -48,8 +49,7 @@ newCoupling blk acmod nfchans = do
 -- cplstre (4.4.3.7)
 unfoldable pub couplingStrategy : (blk acmod nfchans : ℕ) → Coupling → Grammar Coupling
 couplingStrategy blk acmod nfchans old = do
-  cplstre ← flag (one blk Name.cplstre)
-  refuseIf (eqb blk 0 && not cplstre) 8
+  cplstre ← announced blk Name.cplstre
   readIf cplstre old do
     cplinu ← flag (one blk Name.cplinu)
     readIf cplinu (uncoupled old) (newCoupling blk acmod nfchans)
@@ -87,6 +87,5 @@ rematrixBands c = cond (not (c .cplinu) || ltb 2 (c .cplbegf)) 4 (cond (ltb 0 (c
 
 unfoldable pub rematrixing : (blk acmod : ℕ) → Coupling → Grammar (Unit {0})
 rematrixing blk acmod c = when (eqb acmod 2) do
-  rematstr ← flag (one blk Name.rematstr)
-  refuseIf (eqb blk 0 && not rematstr) 8
+  rematstr ← announced blk Name.rematstr
   when rematstr (each (rematrixBands c) (λ rbnd. note (nth blk Name.rematflg rbnd) 1))

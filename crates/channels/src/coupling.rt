@@ -1,30 +1,20 @@
-// The coupling strategy and coordinates of a block, and its rematrixing (4.3.3).
+// The coupling strategy of a block (4.3.3): which channels are coupled, in which range and in how many bands.
+use crate::ChannelFlags;
 use slots::Coupling;
+use slots::announced;
 use syntax::Cursor;
-use syntax::Flagged;
 use syntax::NONE;
-use syntax::elements::and_not;
 use syntax::elements::flag_if;
-use syntax::elements::flags;
 use syntax::names::*;
 ghost use mathlib.Core.Path.{_≡_};
-ghost use mathlib.Core.Bool.{false, _&&_, _||_};
 ghost use Prim.Native.Nat.{_<_, _≤_};
-ghost use lib.ListN.{replicate};
-ghost use Rattle.syntax.specs.Grammar as syntax;
 ghost use Rattle.syntax.specs.Reads.{Reads};
 ghost use Rattle.slots.specs.Slots.{subBands};
 ghost use Rattle.slots.specs.Sound.{SoundCoupling};
 ghost use Rattle.channels.specs.Coupling as grammar;
 ghost use Rattle.channels.specs.Sound.{SoundBands};
 
-// A flag for each channel, and where reading stands then.
-pub struct ChannelsRead {
-    pub set: [bool; 5],
-    pub cursor: Cursor,
-}
-
-fn coupled_channels(s: &[u8], rows: &mut [i32], c: Cursor, blk: u8, nfchans: u8) -> ChannelsRead
+fn coupled_channels(s: &[u8], rows: &mut [i32], c: Cursor, blk: u8, nfchans: u8) -> ChannelFlags
     requires { ⌜ nfchans ≤ 5 ⌝ }
     ensures { λ r. ⌜ Reads (grammar.coupledChannels blk nfchans) (now (s .entry)) c (now (rows .entry)) (r .set) (r .cursor) (now (rows .exit)) ⌝ }
 {
@@ -35,7 +25,7 @@ fn coupled_channels(s: &[u8], rows: &mut [i32], c: Cursor, blk: u8, nfchans: u8)
         set[ch as usize] = chincpl.set;
         cursor = chincpl.cursor;
     }
-    ChannelsRead { set, cursor }
+    ChannelFlags { set, cursor }
 }
 
 fn how_many(set: [bool; 5]) -> u8
@@ -154,8 +144,8 @@ pub fn coupling_strategy(
     ensures { λ r. ⌜ SoundCoupling (r .coupling) ⌝ }
     ensures { λ r. ⌜ SoundBands (r .coupling) ⌝ }
 {
-    let cplstre = syntax::flag_nth(s, rows, c, blk, CPLSTRE, NONE);
-    let cursor = syntax::refuse_if(cplstre.cursor, and_not(blk == 0, cplstre.set), 8);
+    let cplstre = announced(s, rows, c, blk, CPLSTRE);
+    let cursor = cplstre.cursor;
     if cplstre.set {
         let cplinu = syntax::flag_nth(s, rows, cursor, blk, CPLINU, NONE);
         if cplinu.set {
@@ -170,146 +160,5 @@ pub fn coupling_strategy(
             coupling: old,
             cursor,
         }
-    }
-}
-
-// ---- coordinates
-
-fn coordinates(s: &[u8], rows: &mut [i32], c: Cursor, blk: u8, ch: u8, ncplbnd: usize) -> Cursor
-    ensures { λ r. ⌜ Reads (syntax.each ncplbnd (grammar.coordinate blk ch)) (now (s .entry)) c (now (rows .entry)) tt r (now (rows .exit)) ⌝ }
-{
-    let mut cursor = c;
-    for _bnd in 0..ncplbnd {
-        let cplcoexp = syntax::note_nth(s, rows, cursor, blk, CPLCOEXP, ch, 4);
-        cursor = syntax::note_nth(s, rows, cplcoexp, blk, CPLCOMANT, ch, 4);
-    }
-    cursor
-}
-
-// Whether a channel sent coordinates.
-fn channel_coordinates(
-    s: &[u8],
-    rows: &mut [i32],
-    c: Cursor,
-    blk: u8,
-    coupling: Coupling,
-    ch: u8,
-) -> Flagged
-    requires { ⌜ ch < 5 ⌝ }
-    ensures { λ r. ⌜ Reads (grammar.channelCoordinates blk coupling ch) (now (s .entry)) c (now (rows .entry)) (r .set) (r .cursor) (now (rows .exit)) ⌝ }
-{
-    if coupling.chincpl[ch as usize] {
-        let cplcoe = syntax::flag_nth(s, rows, c, blk, CPLCOE, ch);
-        if cplcoe.set {
-            let mstrcplco = syntax::note_nth(s, rows, cplcoe.cursor, blk, MSTRCPLCO, ch, 2);
-            let cursor = coordinates(s, rows, mstrcplco, blk, ch, coupling.ncplbnd);
-            Flagged { set: true, cursor }
-        } else {
-            cplcoe
-        }
-    } else {
-        Flagged {
-            set: false,
-            cursor: c,
-        }
-    }
-}
-
-fn sent_coordinates(
-    s: &[u8],
-    rows: &mut [i32],
-    c: Cursor,
-    blk: u8,
-    nfchans: u8,
-    coupling: Coupling,
-) -> ChannelsRead
-    requires { ⌜ nfchans ≤ 5 ⌝ }
-    ensures { λ r. ⌜ Reads (syntax.fill nfchans (replicate 5 false) (grammar.channelCoordinates blk coupling)) (now (s .entry)) c (now (rows .entry)) (r .set) (r .cursor) (now (rows .exit)) ⌝ }
-{
-    let mut set = [false; 5];
-    let mut cursor = c;
-    for ch in 0..nfchans {
-        let sent = channel_coordinates(s, rows, cursor, blk, coupling, ch);
-        set[ch as usize] = sent.set;
-        cursor = sent.cursor;
-    }
-    ChannelsRead { set, cursor }
-}
-
-// Phase flags follow where they are in use and one of the two channels sent coordinates.
-fn phases_follow(phsflginu: bool, left: bool, right: bool) -> bool
-    ensures { λ r. ⌜ r ≡ (phsflginu && (left || right)) ⌝ }
-{
-    phsflginu && (left || right)
-}
-
-// Which channels sent coordinates: none where there is no coupling.
-pub fn coupling_coordinates(
-    s: &[u8],
-    rows: &mut [i32],
-    c: Cursor,
-    blk: u8,
-    nfchans: u8,
-    coupling: Coupling,
-) -> ChannelsRead
-    requires { ⌜ nfchans ≤ 5 ⌝ }
-    requires { ⌜ SoundBands coupling ⌝ }
-    ensures { λ r. ⌜ Reads (grammar.couplingCoordinates blk nfchans coupling) (now (s .entry)) c (now (rows .entry)) (r .set) (r .cursor) (now (rows .exit)) ⌝ }
-{
-    if coupling.cplinu {
-        let sent = sent_coordinates(s, rows, c, blk, nfchans, coupling);
-        let set = sent.set;
-        if phases_follow(coupling.phsflginu, set[0], set[1]) {
-            let cursor = flags(s, rows, sent.cursor, blk, PHSFLG, coupling.ncplbnd as u8);
-            ChannelsRead { set, cursor }
-        } else {
-            sent
-        }
-    } else {
-        ChannelsRead {
-            set: [false; 5],
-            cursor: c,
-        }
-    }
-}
-
-// ---- rematrixing, Table 4.10
-
-fn rematrix_bands(c: Coupling) -> u8
-    ensures { λ r. ⌜ r ≡ grammar.rematrixBands c ⌝ }
-{
-    if c.cplinu {
-        if 2 < c.cplbegf {
-            4
-        } else if 0 < c.cplbegf {
-            3
-        } else {
-            2
-        }
-    } else {
-        4
-    }
-}
-
-pub fn rematrixing(
-    s: &[u8],
-    rows: &mut [i32],
-    c: Cursor,
-    blk: u8,
-    acmod: u8,
-    coupling: Coupling,
-) -> Cursor
-    ensures { λ r. ⌜ Reads (grammar.rematrixing blk acmod coupling) (now (s .entry)) c (now (rows .entry)) tt r (now (rows .exit)) ⌝ }
-{
-    if acmod == 2 {
-        let rematstr = syntax::flag_nth(s, rows, c, blk, REMATSTR, NONE);
-        let cursor = syntax::refuse_if(rematstr.cursor, and_not(blk == 0, rematstr.set), 8);
-        if rematstr.set {
-            flags(s, rows, cursor, blk, REMATFLG, rematrix_bands(coupling))
-        } else {
-            cursor
-        }
-    } else {
-        c
     }
 }

@@ -1,10 +1,10 @@
--- `channels::coupling::coordinates` meets its contract: the invariant says which bands are left. Assumes nothing.
+-- `channels::coordinates::coordinates` meets its contract: the invariant says which bands are left. Assumes nothing.
 use Prim.Native.Nat.{_-_}
 use borrow.Author.Needs.{needs}
 use Rattle.syntax.proofs.Sequence.{Turns, begins, turn, ends, then}
 use Rattle.channels.specs.Coupling.{coordinate}
-use Rattle.channels.proofs.coupling.coordinates.Statement.{statement}
-use Rattle.channels.proofs.coupling.coordinates.Tie as tie
+use Rattle.channels.proofs.coordinates.coordinates.Statement.{statement}
+use Rattle.channels.proofs.coordinates.coordinates.Tie as tie
 
 abbrev Inv-loop : tie.InvT-loop
 Inv-loop s rows₀ blk ch ncplbnd cursor₀ bnd₀ rows cursor bnd = Turns (λ i _. coordinate blk ch i) 0 ncplbnd tt s cursor₀ rows₀ bnd tt cursor rows

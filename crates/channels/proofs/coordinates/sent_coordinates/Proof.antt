@@ -1,4 +1,4 @@
--- `channels::coupling::sent_coordinates` meets its contract: the invariant says which channels are left, and carries the flags along. Assumes nothing.
+-- `channels::coordinates::sent_coordinates` meets its contract: the invariant says which channels are left, and carries the flags along. Assumes nothing.
 use Prim.Native.Nat.{_-_}
 use mathlib.Core.Bool.{false}
 use lib.ListN.{replicate}
@@ -6,8 +6,8 @@ use borrow.Author.Needs.{needs}
 use Rattle.syntax.specs.Grammar.{filling}
 use Rattle.syntax.proofs.Sequence.{Turns, begins, turn, ends, then, finished}
 use Rattle.channels.specs.Coupling.{channelCoordinates}
-use Rattle.channels.proofs.coupling.sent_coordinates.Statement.{statement}
-use Rattle.channels.proofs.coupling.sent_coordinates.Tie as tie
+use Rattle.channels.proofs.coordinates.sent_coordinates.Statement.{statement}
+use Rattle.channels.proofs.coordinates.sent_coordinates.Tie as tie
 
 abbrev Inv-loop : tie.InvT-loop
 Inv-loop s rows₀ blk nfchans coupling set₀ cursor₀ ch₀ rows set cursor ch =

@@ -1,10 +1,10 @@
--- `channels::coupling::channel_coordinates` meets its contract: a channel that is not coupled sends none, and of a coupled one the flag says whether it sends some. Assumes nothing.
+-- `channels::coordinates::channel_coordinates` meets its contract: a channel that is not coupled sends none, and of a coupled one the flag says whether it sends some. Assumes nothing.
 use borrow.Author.Needs.{needs}
 use Rattle.syntax.proofs.Sequence.{then, finished}
 use Rattle.syntax.proofs.Under.{there, absent, omitted}
 use Rattle.channels.specs.Coupling.{channelCoordinates}
-use Rattle.channels.proofs.coupling.channel_coordinates.Statement.{statement}
-use Rattle.channels.proofs.coupling.channel_coordinates.Tie as tie
+use Rattle.channels.proofs.coordinates.channel_coordinates.Statement.{statement}
+use Rattle.channels.proofs.coordinates.channel_coordinates.Tie as tie
 
 sent : tie.Need-returns
 unfolding channelCoordinates

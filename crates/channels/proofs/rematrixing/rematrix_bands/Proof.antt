@@ -1,7 +1,7 @@
--- `channels::coupling::rematrix_bands` meets its contract: the tests say which row of the table it is. Assumes nothing.
+-- `channels::rematrixing::rematrix_bands` meets its contract: the tests say which row of the table it is. Assumes nothing.
 use borrow.Author.Tests.{lt-ltb, le-ltb}
-use Rattle.channels.proofs.coupling.rematrix_bands.Statement.{statement}
-use Rattle.channels.proofs.coupling.rematrix_bands.Tie as tie
+use Rattle.channels.proofs.rematrixing.rematrix_bands.Statement.{statement}
+use Rattle.channels.proofs.rematrixing.rematrix_bands.Tie as tie
 
 pub rematrix-bands-spec : {M : Type 1} → statement M
 rematrix-bands-spec =

@@ -1,11 +1,11 @@
--- `channels::coupling::coupling_coordinates` meets its contract: the tests say whether there is coupling, and whether phase flags follow. Assumes nothing.
+-- `channels::coordinates::coupling_coordinates` meets its contract: the tests say whether there is coupling, and whether phase flags follow. Assumes nothing.
 use mathlib.Core.Path.{sym, _∙_}
 use borrow.Author.Needs.{needs}
 use Rattle.syntax.proofs.Sequence.{then, finished}
 use Rattle.syntax.proofs.Under.{there, absent, present, omitted}
 use Rattle.channels.specs.Coupling.{phaseFlags, couplingCoordinates}
-use Rattle.channels.proofs.coupling.coupling_coordinates.Statement.{statement}
-use Rattle.channels.proofs.coupling.coupling_coordinates.Tie as tie
+use Rattle.channels.proofs.coordinates.coupling_coordinates.Statement.{statement}
+use Rattle.channels.proofs.coordinates.coupling_coordinates.Tie as tie
 
 phased : tie.Need-returns
 unfolding couplingCoordinates phaseFlags

@@ -1,11 +1,11 @@
--- `channels::strategies::bandwidths` meets its contract: the invariant says which channels are left, and carries the bandwidths along. Assumes nothing.
+-- `channels::ends::bandwidths` meets its contract: the invariant says which channels are left, and carries the bandwidths along. Assumes nothing.
 use Prim.Native.Nat.{_-_}
 use borrow.Author.Needs.{needs}
 use Rattle.syntax.proofs.Sequence.{Turns, begins, turn, ends}
 use Rattle.channels.specs.Strategies.{bandwidth, bandwidths}
 use Rattle.channels.specs.Sound.{SoundBandwidths}
-use Rattle.channels.proofs.strategies.bandwidths.Statement.{statement}
-use Rattle.channels.proofs.strategies.bandwidths.Tie as tie
+use Rattle.channels.proofs.ends.bandwidths.Statement.{statement}
+use Rattle.channels.proofs.ends.bandwidths.Tie as tie
 
 abbrev Inv-loop : tie.InvT-loop
 Inv-loop s rows₀ blk nfchans coupling chexpstr widths₀ cursor₀ ch₀ rows widths cursor ch =

@@ -4,7 +4,10 @@ use slots::Coupling;
 use syntax::Cursor;
 use syntax::Flagged;
 use syntax::elements::flags;
+use syntax::items::nth;
 use syntax::names::*;
+use syntax::readers::flag;
+use syntax::readers::note;
 ghost use mathlib.Core.Path.{_≡_};
 ghost use mathlib.Core.Bool.{false, _&&_, _||_};
 ghost use Prim.Native.Nat.{_<_, _≤_};
@@ -19,8 +22,8 @@ fn coordinates(s: &[u8], rows: &mut [i32], c: Cursor, blk: u8, ch: u8, ncplbnd: 
 {
     let mut cursor = c;
     for _bnd in 0..ncplbnd {
-        let cplcoexp = syntax::note_nth(s, rows, cursor, blk, CPLCOEXP, ch, 4);
-        cursor = syntax::note_nth(s, rows, cplcoexp, blk, CPLCOMANT, ch, 4);
+        let cplcoexp = note(s, rows, cursor, nth(blk, CPLCOEXP, ch), 4);
+        cursor = note(s, rows, cplcoexp, nth(blk, CPLCOMANT, ch), 4);
     }
     cursor
 }
@@ -38,9 +41,9 @@ fn channel_coordinates(
     ensures { λ r. ⌜ Reads (grammar.channelCoordinates blk coupling ch) (now (s .entry)) c (now (rows .entry)) (r .set) (r .cursor) (now (rows .exit)) ⌝ }
 {
     if coupling.chincpl[ch as usize] {
-        let cplcoe = syntax::flag_nth(s, rows, c, blk, CPLCOE, ch);
+        let cplcoe = flag(s, rows, c, nth(blk, CPLCOE, ch));
         if cplcoe.set {
-            let mstrcplco = syntax::note_nth(s, rows, cplcoe.cursor, blk, MSTRCPLCO, ch, 2);
+            let mstrcplco = note(s, rows, cplcoe.cursor, nth(blk, MSTRCPLCO, ch), 2);
             let cursor = coordinates(s, rows, mstrcplco, blk, ch, coupling.ncplbnd);
             Flagged { set: true, cursor }
         } else {

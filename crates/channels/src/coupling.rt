@@ -1,11 +1,18 @@
 // The coupling strategy of a block (4.3.3): which channels are coupled, in which range and in how many bands.
 use crate::ChannelFlags;
 use slots::Coupling;
-use slots::announced;
 use syntax::Cursor;
-use syntax::NONE;
+use syntax::cursors::refuse_if;
+use syntax::elements::announced;
 use syntax::elements::flag_if;
+use syntax::items::nth;
+use syntax::items::one;
 use syntax::names::*;
+use syntax::readers::flag;
+use syntax::readers::take;
+use syntax::refusals::BAD_COUPLING_RANGE;
+use syntax::refusals::NOT_ANNOUNCED;
+use syntax::refusals::TOO_FEW_COUPLED;
 ghost use mathlib.Core.Path.{_≡_};
 ghost use Prim.Native.Nat.{_<_, _≤_};
 ghost use Rattle.syntax.specs.Reads.{Reads};
@@ -21,7 +28,7 @@ fn coupled_channels(s: &[u8], rows: &mut [i32], c: Cursor, blk: u8, nfchans: u8)
     let mut set = [false; 5];
     let mut cursor = c;
     for ch in 0..nfchans {
-        let chincpl = syntax::flag_nth(s, rows, cursor, blk, CHINCPL, ch);
+        let chincpl = flag(s, rows, cursor, nth(blk, CHINCPL, ch));
         set[ch as usize] = chincpl.set;
         cursor = chincpl.cursor;
     }
@@ -67,7 +74,7 @@ fn coupling_bands(s: &[u8], rows: &mut [i32], c: Cursor, blk: u8, subbands: usiz
     let mut bands = subbands;
     let mut cursor = c;
     for bnd in 1..subbands {
-        let cplbndstrc = syntax::flag_nth(s, rows, cursor, blk, CPLBNDSTRC, bnd as u8);
+        let cplbndstrc = flag(s, rows, cursor, nth(blk, CPLBNDSTRC, bnd as u8));
         if cplbndstrc.set {
             bands -= 1;
         }
@@ -96,15 +103,15 @@ fn new_coupling(
     ensures { λ r. ⌜ SoundBands (r .coupling) ⌝ }
 {
     let channels = coupled_channels(s, rows, c, blk, nfchans);
-    let phsflginu = flag_if(s, rows, channels.cursor, acmod == 2, blk, PHSFLGINU);
-    let cplbegf = syntax::take_nth(s, rows, phsflginu.cursor, blk, CPLBEGF, NONE, 4);
-    let cplendf = syntax::take_nth(s, rows, cplbegf.cursor, blk, CPLENDF, NONE, 4);
+    let phsflginu = flag_if(s, rows, channels.cursor, acmod == 2, one(blk, PHSFLGINU));
+    let cplbegf = take(s, rows, phsflginu.cursor, one(blk, CPLBEGF), 4);
+    let cplendf = take(s, rows, cplbegf.cursor, one(blk, CPLENDF), 4);
     let first = cplbegf.value as usize;
     let last = cplendf.value as usize;
-    let ranged = syntax::refuse_if(cplendf.cursor, last + 2 < first, 9);
+    let ranged = refuse_if(cplendf.cursor, last + 2 < first, BAD_COUPLING_RANGE);
     let ncplbnd = coupling_bands(s, rows, ranged, blk, sub_bands(first, last));
     let chincpl = channels.set;
-    let cursor = syntax::refuse_if(ncplbnd.cursor, how_many(chincpl) < 2, 10);
+    let cursor = refuse_if(ncplbnd.cursor, how_many(chincpl) < 2, TOO_FEW_COUPLED);
     CouplingRead {
         coupling: Coupling {
             cplinu: true,
@@ -144,10 +151,10 @@ pub fn coupling_strategy(
     ensures { λ r. ⌜ SoundCoupling (r .coupling) ⌝ }
     ensures { λ r. ⌜ SoundBands (r .coupling) ⌝ }
 {
-    let cplstre = announced(s, rows, c, blk, CPLSTRE);
+    let cplstre = announced(s, rows, c, blk, CPLSTRE, NOT_ANNOUNCED);
     let cursor = cplstre.cursor;
     if cplstre.set {
-        let cplinu = syntax::flag_nth(s, rows, cursor, blk, CPLINU, NONE);
+        let cplinu = flag(s, rows, cursor, one(blk, CPLINU));
         if cplinu.set {
             new_coupling(s, rows, cplinu.cursor, blk, acmod, nfchans)
         } else {

@@ -4,8 +4,13 @@ use slots::Coupling;
 use slots::first_coupled;
 use slots::past_channel;
 use syntax::Cursor;
+use syntax::cursors::refuse_if;
 use syntax::elements::and_not;
+use syntax::items::nth;
 use syntax::names::*;
+use syntax::readers::take;
+use syntax::refusals::BAD_BANDWIDTH;
+use syntax::refusals::NO_BANDWIDTH;
 ghost use mathlib.Core.List.{List};
 ghost use Prim.Native.Nat.{ℕ, _<_, _≤_};
 ghost use lib.IntN.{ℤ};
@@ -37,9 +42,9 @@ fn bandwidth(
 {
     let at = ch as usize;
     if and_not(chexpstr[at] != 0, coupling.chincpl[at]) {
-        let code = syntax::take_nth(s, rows, c, blk, CHBWCOD, ch, 6);
-        let cursor = syntax::refuse_if(code.cursor, 60 < code.value, 11);
-        if cursor.stop != 0 {
+        let code = take(s, rows, c, nth(blk, CHBWCOD, ch), 6);
+        let cursor = refuse_if(code.cursor, 60 < code.value, BAD_BANDWIDTH);
+        if cursor.stop.number != 0 {
             return BandwidthsRead {
                 bandwidths: old,
                 cursor,
@@ -106,7 +111,7 @@ fn channel_end(c: Cursor, coupling: Coupling, bandwidths: Bandwidths, ch: u8) ->
             cursor: c,
         };
     }
-    let cursor = syntax::refuse_if(c, !bandwidths.sent[at], 12);
+    let cursor = refuse_if(c, !bandwidths.sent[at], NO_BANDWIDTH);
     EndRead {
         end: past_channel(bandwidths.chbwcod[at]),
         cursor,

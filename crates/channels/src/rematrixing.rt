@@ -1,9 +1,10 @@
 // The rematrixing flags of a block (4.3.3), as many as Table 4.10 says.
 use slots::Coupling;
-use slots::announced;
 use syntax::Cursor;
+use syntax::elements::announced;
 use syntax::elements::flags;
 use syntax::names::*;
+use syntax::refusals::NOT_ANNOUNCED;
 ghost use mathlib.Core.Path.{_≡_};
 ghost use Rattle.syntax.specs.Reads.{Reads};
 ghost use Rattle.channels.specs.Coupling as grammar;
@@ -35,7 +36,7 @@ pub fn rematrixing(
     ensures { λ r. ⌜ Reads (grammar.rematrixing blk acmod coupling) (now (s .entry)) c (now (rows .entry)) tt r (now (rows .exit)) ⌝ }
 {
     if acmod == 2 {
-        let rematstr = announced(s, rows, c, blk, REMATSTR);
+        let rematstr = announced(s, rows, c, blk, REMATSTR, NOT_ANNOUNCED);
         let cursor = rematstr.cursor;
         if rematstr.set {
             flags(s, rows, cursor, blk, REMATFLG, rematrix_bands(coupling))

@@ -2,7 +2,10 @@
 use slots::Strategies;
 use syntax::Cursor;
 use syntax::elements::take_if;
+use syntax::items::nth;
+use syntax::items::one;
 use syntax::names::*;
+use syntax::readers::take;
 ghost use Prim.Native.Nat.{_≤_};
 ghost use Rattle.syntax.specs.Reads.{Reads};
 ghost use Rattle.slots.specs.Sound.{Entries, SoundStrategies};
@@ -21,7 +24,7 @@ fn channel_strategies(s: &[u8], rows: &mut [i32], c: Cursor, blk: u8, nfchans: u
     let mut codes = [0u8; 5];
     let mut cursor = c;
     for ch in 0..nfchans {
-        let chexpstr = syntax::take_nth(s, rows, cursor, blk, CHEXPSTR, ch, 2);
+        let chexpstr = take(s, rows, cursor, nth(blk, CHEXPSTR, ch), 2);
         codes[ch as usize] = chexpstr.value as u8;
         cursor = chexpstr.cursor;
     }
@@ -46,9 +49,9 @@ pub fn exponent_strategies(
     ensures { λ r. ⌜ Reads (grammar.exponentStrategies blk nfchans cplinu lfeon) (now (s .entry)) c (now (rows .entry)) (r .strategies) (r .cursor) (now (rows .exit)) ⌝ }
     ensures { λ r. ⌜ SoundStrategies (r .strategies) ⌝ }
 {
-    let cplexpstr = take_if(s, rows, c, cplinu, blk, CPLEXPSTR, 2);
+    let cplexpstr = take_if(s, rows, c, cplinu, one(blk, CPLEXPSTR), 2);
     let channels = channel_strategies(s, rows, cplexpstr.cursor, blk, nfchans);
-    let lfeexpstr = take_if(s, rows, channels.cursor, lfeon, blk, LFEEXPSTR, 1);
+    let lfeexpstr = take_if(s, rows, channels.cursor, lfeon, one(blk, LFEEXPSTR), 1);
     let chexpstr = channels.codes;
     let cursor = lfeexpstr.cursor;
     StrategiesRead {

@@ -5,6 +5,7 @@ use mathlib.Core.Path.{_≡_, refl}
 use Prim.Native.Nat.{ℕ}
 use lib.ListN.{replicate}
 use Rattle.bits.specs.Bits.{bitAt, value}
+use Rattle.syntax.specs.Refusals.{tooShort, noDelta, badDelta}
 use Rattle.syntax.specs.Grammar.{Grammar, _>>=_, _>>_, turns, framed}
 use Rattle.syntax.specs.Run.{Spot, End, reached, refused, run, parse, unless, roomCheck, check}
 use Rattle.parameters.specs.Delta.{deltas, codedDeltas, channelCode, deltaCode, slotDeltas, newDeltas, segment}
@@ -13,7 +14,7 @@ use Rattle.slots.specs.declared.Deltas.{Deltas}
 
 -- how a section ends on some bytes, with room enough
 ending : {A : Type 0} → Grammar A → List ℕ → End A
-ending g s = parse (framed 1 4 >> g) s 100 .end
+ending g s = parse (framed tooShort 4 >> g) s 100 .end
 
 -- a segment in force for channel 0
 one-segment : List Deltas
@@ -30,10 +31,10 @@ no-segments-at-first = refl
 
 -- deltbaie 1, deltbae 2 (bits 110..): cleared; deltbae 3: refused; deltbae 0: refused in block 0, kept later
 codes : map (λ byte. ending (deltas 1 1 false one-segment) (byte ∷ replicate 3 0)) (0xC0 ∷ 0xE0 ∷ 0x80 ∷ [])
-    ≡ reached (replicate 7 noDeltas) ∷ refused 19 ∷ reached one-segment ∷ []
+    ≡ reached (replicate 7 noDeltas) ∷ refused badDelta ∷ reached one-segment ∷ []
 unfolding ending deltas codedDeltas channelCode deltaCode slotDeltas one-segment turns _>>=_ run unless roomCheck check value bitAt
 codes = refl
 
-reuse-in-block-0 : ending (deltas 0 1 false one-segment) (0x80 ∷ replicate 3 0) ≡ refused 18
+reuse-in-block-0 : ending (deltas 0 1 false one-segment) (0x80 ∷ replicate 3 0) ≡ refused noDelta
 unfolding ending deltas codedDeltas channelCode deltaCode slotDeltas turns _>>=_ run unless roomCheck check value bitAt
 reuse-in-block-0 = refl

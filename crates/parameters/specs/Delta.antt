@@ -8,6 +8,7 @@ use lib.Seq.{sets}
 use Rattle.syntax.specs.declared.Item.{Item}
 use Rattle.syntax.specs.Grammar.{Grammar, done, _>>=_, _>>_, one, nth, take, flag, refuseIf, readIf, for}
 use Rattle.syntax.specs.Names as Name
+use Rattle.syntax.specs.Refusals.{noDelta, badDelta}
 use Rattle.slots.specs.Slots.{CPL, noDeltas}
 use Rattle.slots.specs.declared.Deltas.{Deltas}
 
@@ -20,8 +21,8 @@ pub record Coded : Type 0 where
 unfoldable pub deltaCode : (blk slot : ℕ) → Item → Coded → Grammar Coded
 deltaCode blk slot item d = do
   deltbae ← take item 2
-  refuseIf (eqb deltbae 0 && eqb blk 0) 18
-  refuseIf (eqb deltbae 3) 19
+  refuseIf (eqb deltbae 0 && eqb blk 0) noDelta
+  refuseIf (eqb deltbae 3) badDelta
   done (record { codes = set (d .codes) slot deltbae; deltas = cond (eqb deltbae 2) (set (d .deltas) slot noDeltas) (d .deltas) })
 
 unfoldable pub channelCode : (blk ch : ℕ) → Coded → Grammar Coded

@@ -1,10 +1,11 @@
 // The masking curve's parameters (4.3.3, 4.4.3.30 to .35).
 use slots::Curve;
-use slots::announced;
 use syntax::Cursor;
-use syntax::NONE;
+use syntax::elements::announced;
+use syntax::items::one;
 use syntax::names;
-use syntax::take_nth;
+use syntax::readers::take;
+use syntax::refusals::NOT_ANNOUNCED;
 ghost use Rattle.syntax.specs.Reads.{Reads};
 ghost use Rattle.slots.specs.Sound.{SoundCurve};
 ghost use Rattle.parameters.specs.Parameters as grammar;
@@ -18,11 +19,11 @@ fn new_curve(s: &[u8], rows: &mut [i32], c: Cursor, blk: u8) -> CurveRead
     ensures { λ r. ⌜ Reads (grammar.newCurve blk) (now (s .entry)) c (now (rows .entry)) (r .curve) (r .cursor) (now (rows .exit)) ⌝ }
     ensures { λ r. ⌜ SoundCurve (r .curve) ⌝ }
 {
-    let sdcycod = take_nth(s, rows, c, blk, names::SDCYCOD, NONE, 2);
-    let fdcycod = take_nth(s, rows, sdcycod.cursor, blk, names::FDCYCOD, NONE, 2);
-    let sgaincod = take_nth(s, rows, fdcycod.cursor, blk, names::SGAINCOD, NONE, 2);
-    let dbpbcod = take_nth(s, rows, sgaincod.cursor, blk, names::DBPBCOD, NONE, 2);
-    let floorcod = take_nth(s, rows, dbpbcod.cursor, blk, names::FLOORCOD, NONE, 3);
+    let sdcycod = take(s, rows, c, one(blk, names::SDCYCOD), 2);
+    let fdcycod = take(s, rows, sdcycod.cursor, one(blk, names::FDCYCOD), 2);
+    let sgaincod = take(s, rows, fdcycod.cursor, one(blk, names::SGAINCOD), 2);
+    let dbpbcod = take(s, rows, sgaincod.cursor, one(blk, names::DBPBCOD), 2);
+    let floorcod = take(s, rows, dbpbcod.cursor, one(blk, names::FLOORCOD), 3);
     let cursor = floorcod.cursor;
     CurveRead {
         curve: Curve {
@@ -41,7 +42,7 @@ pub fn curve(s: &[u8], rows: &mut [i32], c: Cursor, blk: u8, old: Curve) -> Curv
     ensures { λ r. ⌜ Reads (grammar.curve blk old) (now (s .entry)) c (now (rows .entry)) (r .curve) (r .cursor) (now (rows .exit)) ⌝ }
     ensures { λ r. ⌜ SoundCurve (r .curve) ⌝ }
 {
-    let baie = announced(s, rows, c, blk, names::BAIE);
+    let baie = announced(s, rows, c, blk, names::BAIE, NOT_ANNOUNCED);
     let cursor = baie.cursor;
     if baie.set {
         return new_curve(s, rows, cursor, blk);

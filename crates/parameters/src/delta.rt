@@ -4,7 +4,14 @@ use slots::Deltas;
 use slots::NO_DELTAS;
 use syntax::Cursor;
 use syntax::NONE;
+use syntax::cursors::refuse_if;
+use syntax::items::nth;
+use syntax::items::one;
 use syntax::names;
+use syntax::readers::flag;
+use syntax::readers::take;
+use syntax::refusals::BAD_DELTA;
+use syntax::refusals::NO_DELTA;
 ghost use mathlib.Core.Path.{_≡_};
 ghost use mathlib.Core.Bool.{_&&_, cond};
 ghost use mathlib.Core.List.{[], _∷_};
@@ -66,9 +73,13 @@ fn delta_code(
         (record { codes = r .codes; deltas = r .deltas }) (r .cursor) (now (rows .exit)) ⌝ }
     ensures { λ r. ⌜ SoundDeltas (r .deltas) ⌝ }
 {
-    let deltbae = syntax::take_nth(s, rows, c, blk, name, index, 2);
-    let kept = syntax::refuse_if(deltbae.cursor, nothing_to_keep(deltbae.value, blk), 18);
-    let cursor = syntax::refuse_if(kept, deltbae.value == 3, 19);
+    let deltbae = take(s, rows, c, nth(blk, name, index), 2);
+    let kept = refuse_if(
+        deltbae.cursor,
+        nothing_to_keep(deltbae.value, blk),
+        NO_DELTA,
+    );
+    let cursor = refuse_if(kept, deltbae.value == 3, BAD_DELTA);
     let deltas = cleared_if(deltbae.value == 2, slot, deltas);
     let mut codes = codes;
     codes[slot as usize] = deltbae.value as u8;
@@ -182,9 +193,9 @@ fn segment(
     let offset_name = delta_name(slot, names::CPLDELTOFFST, names::DELTOFFST);
     let length_name = delta_name(slot, names::CPLDELTLEN, names::DELTLEN);
     let code_name = delta_name(slot, names::CPLDELTBA, names::DELTBA);
-    let deltoffst = syntax::take_nth(s, rows, c, blk, offset_name, slot, 5);
-    let deltlen = syntax::take_nth(s, rows, deltoffst.cursor, blk, length_name, slot, 4);
-    let deltba = syntax::take_nth(s, rows, deltlen.cursor, blk, code_name, slot, 3);
+    let deltoffst = take(s, rows, c, nth(blk, offset_name, slot), 5);
+    let deltlen = take(s, rows, deltoffst.cursor, nth(blk, length_name, slot), 4);
+    let deltba = take(s, rows, deltlen.cursor, nth(blk, code_name, slot), 3);
     let segments = with_segment(segments, seg, deltoffst.value, deltlen.value, deltba.value);
     let cursor = deltba.cursor;
     SegmentsRead { segments, cursor }
@@ -201,7 +212,7 @@ fn new_deltas(s: &[u8], rows: &mut [i32], c: Cursor, blk: u8, slot: u8) -> SlotR
     ensures { λ r. ⌜ SoundSegments (r .deltas) ⌝ }
 {
     let name = delta_name(slot, names::CPLDELTNSEG, names::DELTNSEG);
-    let deltnseg = syntax::take_nth(s, rows, c, blk, name, slot, 3);
+    let deltnseg = take(s, rows, c, nth(blk, name, slot), 3);
     let count = deltnseg.value as usize + 1;
     let mut segments = [0u8; 24];
     let mut cursor = deltnseg.cursor;
@@ -313,7 +324,7 @@ pub fn deltas(
     ensures { λ r. ⌜ Reads (grammar.deltas blk nfchans cplinu old) (now (s .entry)) c (now (rows .entry)) (r .deltas) (r .cursor) (now (rows .exit)) ⌝ }
     ensures { λ r. ⌜ SoundDeltas (r .deltas) ⌝ }
 {
-    let deltbaie = syntax::flag_nth(s, rows, c, blk, names::DELTBAIE, NONE);
+    let deltbaie = flag(s, rows, c, one(blk, names::DELTBAIE));
     let cursor = deltbaie.cursor;
     if deltbaie.set {
         return coded_deltas(s, rows, cursor, blk, nfchans, cplinu, old);

@@ -1,10 +1,10 @@
 // Where the excitation of coupling starts (4.3.3, 4.4.3.44 to .46).
 use slots::CouplingLeak;
 use syntax::Cursor;
-use syntax::NONE;
-use syntax::flag_nth;
+use syntax::items::one;
 use syntax::names;
-use syntax::take_nth;
+use syntax::readers::flag;
+use syntax::readers::take;
 ghost use Rattle.syntax.specs.Reads.{Reads};
 ghost use Rattle.slots.specs.Sound.{SoundLeak};
 ghost use Rattle.parameters.specs.Parameters as grammar;
@@ -18,8 +18,8 @@ fn new_leak(s: &[u8], rows: &mut [i32], c: Cursor, blk: u8) -> LeakRead
     ensures { λ r. ⌜ Reads (grammar.newLeak blk) (now (s .entry)) c (now (rows .entry)) (r .leak) (r .cursor) (now (rows .exit)) ⌝ }
     ensures { λ r. ⌜ SoundLeak (r .leak) ⌝ }
 {
-    let cplfleak = take_nth(s, rows, c, blk, names::CPLFLEAK, NONE, 3);
-    let cplsleak = take_nth(s, rows, cplfleak.cursor, blk, names::CPLSLEAK, NONE, 3);
+    let cplfleak = take(s, rows, c, one(blk, names::CPLFLEAK), 3);
+    let cplsleak = take(s, rows, cplfleak.cursor, one(blk, names::CPLSLEAK), 3);
     let cursor = cplsleak.cursor;
     LeakRead {
         leak: CouplingLeak {
@@ -44,7 +44,7 @@ pub fn coupling_leak(
     ensures { λ r. ⌜ SoundLeak (r .leak) ⌝ }
 {
     if cplinu {
-        let cplleake = flag_nth(s, rows, c, blk, names::CPLLEAKE, NONE);
+        let cplleake = flag(s, rows, c, one(blk, names::CPLLEAKE));
         let cursor = cplleake.cursor;
         if cplleake.set {
             return new_leak(s, rows, cursor, blk);

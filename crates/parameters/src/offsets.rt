@@ -2,11 +2,14 @@
 use slots::CPL;
 use slots::LFE;
 use slots::Offsets;
-use slots::announced;
 use syntax::Cursor;
 use syntax::NONE;
+use syntax::elements::announced;
+use syntax::items::nth;
+use syntax::items::one;
 use syntax::names;
-use syntax::take_nth;
+use syntax::readers::take;
+use syntax::refusals::NOT_ANNOUNCED;
 ghost use Prim.Native.Nat.{_<_, _≤_};
 ghost use Rattle.syntax.specs.Grammar.{one, nth, readIf, for};
 ghost use Rattle.syntax.specs.Reads.{Reads};
@@ -35,8 +38,8 @@ fn fine_offset(
     ensures { λ r. ⌜ Reads (grammar.fineOffset slot (nth blk offset index) (nth blk gain index) old) (now (s .entry)) c (now (rows .entry)) (r .offsets) (r .cursor) (now (rows .exit)) ⌝ }
     ensures { λ r. ⌜ SoundOffsets (r .offsets) ⌝ }
 {
-    let fsnroffst = take_nth(s, rows, c, blk, offset, index, 4);
-    let fgaincod = take_nth(s, rows, fsnroffst.cursor, blk, gain, index, 3);
+    let fsnroffst = take(s, rows, c, nth(blk, offset, index), 4);
+    let fgaincod = take(s, rows, fsnroffst.cursor, nth(blk, gain, index), 3);
     let mut offsets = old;
     offsets.fsnroffst[slot as usize] = fsnroffst.value as u8;
     offsets.fgaincod[slot as usize] = fgaincod.value as u8;
@@ -119,7 +122,7 @@ fn new_offsets(
     ensures { λ r. ⌜ Reads (grammar.newOffsets blk nfchans cplinu lfeon old) (now (s .entry)) c (now (rows .entry)) (r .offsets) (r .cursor) (now (rows .exit)) ⌝ }
     ensures { λ r. ⌜ SoundOffsets (r .offsets) ⌝ }
 {
-    let csnroffst = take_nth(s, rows, c, blk, names::CSNROFFST, NONE, 6);
+    let csnroffst = take(s, rows, c, one(blk, names::CSNROFFST), 6);
     let mut o = old;
     o.csnroffst = csnroffst.value as u8;
     let cpl = fine_offset_when(
@@ -162,7 +165,7 @@ pub fn offsets(
     ensures { λ r. ⌜ Reads (grammar.offsets blk nfchans cplinu lfeon old) (now (s .entry)) c (now (rows .entry)) (r .offsets) (r .cursor) (now (rows .exit)) ⌝ }
     ensures { λ r. ⌜ SoundOffsets (r .offsets) ⌝ }
 {
-    let snroffste = announced(s, rows, c, blk, names::SNROFFSTE);
+    let snroffste = announced(s, rows, c, blk, names::SNROFFSTE, NOT_ANNOUNCED);
     let cursor = snroffste.cursor;
     if snroffste.set {
         return new_offsets(s, rows, cursor, blk, nfchans, cplinu, lfeon, old);

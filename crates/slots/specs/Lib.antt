@@ -1,4 +1,3 @@
 pub mod Slots
-pub mod Announced
 pub mod Forgotten
 pub mod Sound

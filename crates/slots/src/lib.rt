@@ -1,13 +1,7 @@
 // What the sections of an audio block share (4.3.3): the slots of its channels and the bins of each, and what a block leaves to the next one.
 // Slots: full bandwidth channels 0 to 4, coupling 5, LFE 6. What is public here is so because the sections stand in crates above.
-use syntax::Cursor;
-use syntax::Flagged;
-use syntax::NONE;
-use syntax::elements::and_not;
 ghost use mathlib.Core.Path.{_≡_};
 ghost use Prim.Native.Nat.{_<_};
-ghost use Rattle.syntax.specs.Reads.{Reads};
-ghost use Rattle.slots.specs.Announced as grammar;
 ghost use Rattle.slots.specs.Slots as slots;
 
 pub const CPL: u8 = 5;
@@ -44,16 +38,6 @@ pub fn past_channel(chbwcod: usize) -> usize
     ensures { λ r. ⌜ r ≡ slots.pastChannel chbwcod ⌝ }
 {
     37 + 3 * (chbwcod + 12)
-}
-
-// A flag that says whether something new is sent: refusal 8 where block 0 does not.
-pub fn announced(s: &[u8], rows: &mut [i32], c: Cursor, blk: u8, name: u8) -> Flagged
-    ensures { λ r. ⌜ Reads (grammar.announced blk name) (now (s .entry)) c (now (rows .entry)) (r .set) (r .cursor) (now (rows .exit)) ⌝ }
-{
-    let sent = syntax::flag_nth(s, rows, c, blk, name, NONE);
-    let set = sent.set;
-    let cursor = syntax::refuse_if(sent.cursor, and_not(blk == 0, set), 8);
-    Flagged { set, cursor }
 }
 
 // The coupling strategy in force.

@@ -13,7 +13,6 @@ use crate::readers::take;
 ghost use mathlib.Core.Path.{_≡_};
 ghost use mathlib.Core.Bool.{false, _&&_, not};
 ghost use Prim.Native.Nat.{_<_, _≤_, _^_, _+_};
-ghost use lib.Dec.{eqb};
 ghost use Rattle.syntax.specs.Grammar as grammar;
 ghost use Rattle.syntax.specs.Reads.{Reads};
 
@@ -83,13 +82,6 @@ pub fn flags(s: &[u8], rows: &mut [i32], c: Cursor, blk: u8, name: u8, count: u8
     cursor
 }
 
-// Whether block 0 lacks what it must announce.
-fn lacking(blk: u8, sent: bool) -> bool
-    ensures { λ r. ⌜ r ≡ (eqb blk 0 && not sent) ⌝ }
-{
-    if blk == 0 { !sent } else { false }
-}
-
 // A flag that announces what a block needs: block 0 must have it set.
 pub fn announced(
     s: &[u8],
@@ -104,7 +96,7 @@ pub fn announced(
 {
     let sent = flag(s, rows, c, one(blk, name));
     let set = sent.set;
-    let cursor = refuse_if(sent.cursor, lacking(blk, set), refusal);
+    let cursor = refuse_if(sent.cursor, and_not(blk == 0, set), refusal);
     Flagged { set, cursor }
 }
 

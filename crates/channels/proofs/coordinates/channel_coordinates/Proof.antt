@@ -11,11 +11,11 @@ unfolding channelCoordinates
 sent c =
     let t3 = c .before in
     let t2 = t3 .before .before .before in
-    let t1 = t2 .before .before .before .before in
+    let t1 = t2 .before .before .before .before .before in
     there _ _ _ (t1 .before .before .if1 .taken)
-    (then _ (t1 .flag-nth .ensures)
+    (then _ (rw (t1 .before .nth .ensures) at (t1 .flag .ensures))
     (rw (t2 .before .before .if2 .taken)
-    (then _ (then _ (t2 .note-nth .ensures) (t3 .coordinates .ensures))
+    (then _ (then _ (rw (t2 .before .nth2 .ensures) at (t2 .note .ensures)) (t3 .coordinates .ensures))
     finished)))
 
 unsent : tie.Need-returns-2
@@ -23,7 +23,7 @@ unfolding channelCoordinates
 unsent c =
     let t1 = c .before .before in
     there _ _ _ (t1 .before .before .if1 .taken)
-    (then _ (t1 .flag-nth .ensures)
+    (then _ (rw (t1 .before .nth .ensures) at (t1 .flag .ensures))
     (then _ (omitted _ _ (c .if2 .left))
     finished))
 
@@ -36,8 +36,10 @@ channel-coordinates-spec =
     tie.close
     (tie.spec
     (λ c. search needs)  -- element-copy-out-if1
-    (λ c κs. search needs)  -- flag-nth-requires
-    (λ c κs. search needs)  -- note-nth-requires
+    (λ c κs. tt)  -- nth-requires
+    (λ c κs. search needs)  -- flag-requires
+    (λ c κs. tt)  -- nth-requires-2
+    (λ c κs. search needs)  -- note-requires
     (λ c κs. search needs)  -- coordinates-requires
     (λ c. sent c .long)  -- same-length
     sent

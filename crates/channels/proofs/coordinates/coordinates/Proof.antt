@@ -16,9 +16,9 @@ again : tie.Need-loop-again Inv-loop μ-loop
 unfolding coordinate
 again c =
     let t2 = c .before in
-    let t1 = t2 .before .before .before in
-    let test = t1 .before .before in
-    turn (test .before .loop .inv) (test .loop-test .taken) (then _ (t1 .note-nth .ensures) (t2 .note-nth2 .ensures))
+    let t1 = t2 .before .before .before .before in
+    let test = t1 .before .before .before in
+    turn (test .before .loop .inv) (test .loop-test .taken) (then _ (rw (t1 .before .nth .ensures) at (t1 .note .ensures)) (rw (t2 .before .nth2 .ensures) at (t2 .note2 .ensures)))
 
 reads : tie.Need-returns Inv-loop μ-loop
 reads c = ends (c .before .loop .inv) (c .loop-test .left)
@@ -30,8 +30,10 @@ coordinates-spec =
     Inv-loop
     μ-loop
     (λ c. begins)  -- loop-holds
-    (λ c κs. search needs)  -- note-nth-requires
-    (λ c κs. search needs)  -- note-nth-requires-2
+    (λ c κs. tt)  -- nth-requires
+    (λ c κs. search needs)  -- note-requires
+    (λ c κs. tt)  -- nth-requires-2
+    (λ c κs. search needs)  -- note-requires-2
     (λ c. search needs)  -- add--bnd
     (λ c. search needs)  -- loop-less
     again

@@ -10,10 +10,10 @@ unfolding couplingStrategy
 new c =
     let t3 = c .before in
     let t2 = t3 .before .before .before .before in
-    let t1 = t2 .before .before .before .before .before in (
+    let t1 = t2 .before .before .before .before .before .before in (
       then _ (t1 .announced .ensures)
           (rw (t2 .before .before .if1 .taken)
-          (then _ (t2 .flag-nth .ensures)
+          (then _ (rw (t2 .before .one .ensures) at (t2 .flag .ensures))
           (rw (t3 .before .before .if2 .taken)
           (t3 .new-coupling .ensures .0)))),
       t3 .new-coupling .ensures .1,
@@ -24,12 +24,12 @@ unfolding couplingStrategy
 none c =
     let t3 = c .before in
     let t2 = t3 .before .before .before in
-    let t1 = t2 .before .before .before .before .before in
+    let t1 = t2 .before .before .before .before .before .before in
     let pre = t1 .before .before .before .pre in
     rw (t3 .uncoupled .ensures) (
       then _ (t1 .announced .ensures)
           (rw (t2 .before .before .if1 .taken)
-          (then _ (t2 .flag-nth .ensures)
+          (then _ (rw (t2 .before .one .ensures) at (t2 .flag .ensures))
           (rw (t3 .before .if2 .left) finished))),
       (record { cplbegf = pre .1 .0 .cplbegf; cplendf = pre .1 .0 .cplendf }, record { ncplbnd = pre .1 .1 .ncplbnd }),
     )
@@ -45,7 +45,8 @@ coupling-strategy-spec =
     tie.close
     (tie.spec
     (λ c κs. search needs)  -- announced-requires
-    (λ c κs. search needs)  -- flag-nth-requires
+    (λ c κs. tt)  -- one-requires
+    (λ c κs. search needs)  -- flag-requires
     (λ c κs. search needs)  -- new-coupling-requires
     (λ c κs. search needs)  -- uncoupled-requires
     (λ c. new c .0 .long)  -- same-length

@@ -16,9 +16,9 @@ unfolding bandwidth
 refused c =
     let t3 = c .before .before in
     let t2 = t3 .before .before .before in
-    let t1 = t2 .before .before .before in (
+    let t1 = t2 .before .before .before .before in (
       there _ _ _ (sym (t1 .and-not .ensures) ∙ t2 .before .before .if1 .taken)
-          (then _ (t2 .take-nth .ensures .0)
+          (then _ (rw (t2 .before .nth .ensures) at (t2 .take .ensures .0))
           (then _ (judged (t3 .refuse-if .ensures) refl)
           (stopped (c .if2 .taken)))),
       t1 .before .before .before .pre .1,
@@ -29,12 +29,12 @@ unfolding bandwidth
 sent c =
     let t3 = c .before .before .before .before .before in
     let t2 = t3 .before .before .before in
-    let t1 = t2 .before .before .before in
+    let t1 = t2 .before .before .before .before in
     let start = t1 .before .before .before in
-    let code = t2 .take-nth .result .value in
+    let code = t2 .take .result .value in
     let small = ltb-false 60 code (t3 .refuse-if .ensures .passed (c .before .before .before .if2 .left)) in (
       there _ _ _ (sym (t1 .and-not .ensures) ∙ t2 .before .before .if1 .taken)
-          (then _ (t2 .take-nth .ensures .0)
+          (then _ (rw (t2 .before .nth .ensures) at (t2 .take .ensures .0))
           (then _ (judged (t3 .refuse-if .ensures) refl)
           finished)),
       record { chbwcod = every-set (λ n. n < 61) 0 (start .args .old .chbwcod) (start .pre .1 .chbwcod) (start .args .ch) code (omega (arith, small)) },
@@ -53,7 +53,8 @@ bandwidth-spec =
     (λ c. search needs)  -- array-read-and-not
     (λ c. search needs)  -- element-copy-out-and-not
     (λ c κs. search needs)  -- and-not-requires
-    (λ c κs. search needs)  -- take-nth-requires
+    (λ c κs. tt)  -- nth-requires
+    (λ c κs. search needs)  -- take-requires
     (λ c κs. search needs)  -- refuse-if-requires
     (λ c. refused c .0 .long)  -- same-length
     refused

@@ -22,9 +22,9 @@ abbrev μ-loop : tie.MeasureT-loop
 again : tie.Need-loop-again Inv-loop μ-loop
 again c =
     let t1 = c .before .before .before in
-    let test = t1 .before .before in
+    let test = t1 .before .before .before in
     let at = test .before .loop in
-    (turn (at .inv .0) (test .loop-test .taken) (then _ (t1 .take-nth .ensures .0) finished), every-set (λ n. n < 4) 0 (at .codes) (at .inv .1) (at .ch) _ (t1 .take-nth .ensures .1))
+    (turn (at .inv .0) (test .loop-test .taken) (then _ (rw (t1 .before .nth .ensures) at (t1 .take .ensures .0)) finished), every-set (λ n. n < 4) 0 (at .codes) (at .inv .1) (at .ch) _ (t1 .take .ensures .1))
 
 reads : tie.Need-returns Inv-loop μ-loop
 unfolding channelStrategies
@@ -37,7 +37,8 @@ channel-strategies-spec =
     Inv-loop
     μ-loop
     (λ c. (begins, every-replicate (λ n. n < 4) 0 5 0 (omega arith) (omega arith)))  -- loop-holds
-    (λ c κs. search needs)  -- take-nth-requires
+    (λ c κs. tt)  -- nth-requires
+    (λ c κs. search needs)  -- take-requires
     (λ c. search needs)  -- cast-codes
     (λ c. search needs)  -- cast-codes-2
     (λ c. search needs)  -- array-write-codes

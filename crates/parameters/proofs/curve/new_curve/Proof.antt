@@ -1,7 +1,5 @@
 -- `parameters::curve::new_curve` meets its contract: a `then` for each element, and each value fits its width. Assumes nothing.
 use native.Mathlib.Omega.{arith}
-use mir.Syntax.{w8}
-use mir.Val.{Fits}
 use borrow.Author.Needs.{needs}
 use Rattle.syntax.proofs.Sequence.{then, finished}
 use Rattle.parameters.specs.Parameters.{newCurve}
@@ -12,45 +10,43 @@ reads : tie.Need-returns
 unfolding newCurve
 reads c =
     let t5 = c .before .before .before .before .before .before .before in
-    let t4 = t5 .before .before .before in
-    let t3 = t4 .before .before .before in
-    let t2 = t3 .before .before .before in
-    let t1 = t2 .before .before .before in (
-      then _ (t1 .take-nth .ensures .0)
-          (then _ (t2 .take-nth2 .ensures .0)
-          (then _ (t3 .take-nth3 .ensures .0)
-          (then _ (t4 .take-nth4 .ensures .0)
-          (then _ (t5 .take-nth5 .ensures .0)
+    let t4 = t5 .before .before .before .before in
+    let t3 = t4 .before .before .before .before in
+    let t2 = t3 .before .before .before .before in
+    let t1 = t2 .before .before .before .before in (
+      then _ (rw (t1 .before .one .ensures) at (t1 .take .ensures .0))
+          (then _ (rw (t2 .before .one2 .ensures) at (t2 .take2 .ensures .0))
+          (then _ (rw (t3 .before .one3 .ensures) at (t3 .take3 .ensures .0))
+          (then _ (rw (t4 .before .one4 .ensures) at (t4 .take4 .ensures .0))
+          (then _ (rw (t5 .before .one5 .ensures) at (t5 .take5 .ensures .0))
           finished)))),
       record {
-        sdcycod = t1 .take-nth .ensures .1;
-        fdcycod = t2 .take-nth2 .ensures .1;
-        sgaincod = t3 .take-nth3 .ensures .1;
-        dbpbcod = t4 .take-nth4 .ensures .1;
-        floorcod = t5 .take-nth5 .ensures .1;
+        sdcycod = t1 .take .ensures .1;
+        fdcycod = t2 .take2 .ensures .1;
+        sgaincod = t3 .take3 .ensures .1;
+        dbpbcod = t4 .take4 .ensures .1;
+        floorcod = t5 .take5 .ensures .1;
       },
     )
-
--- the values that lie too far back to be found
-first-fits : (c : tie.After-take-nth5) → Fits w8 (c .before .before .before .before .before .before .before .before .before .before .before .before .take-nth .result .value)
-first-fits c = let t = c .before .before .before .before .before .before .before .before .before .before .before .before in omega (arith, t .take-nth .ensures .1)
-
-second-fits : (c : tie.After-take-nth5) → Fits w8 (c .before .before .before .before .before .before .before .before .before .take-nth2 .result .value)
-second-fits c = let t = c .before .before .before .before .before .before .before .before .before in omega (arith, t .take-nth2 .ensures .1)
 
 pub new-curve-spec : {M : Type 1} → statement M
 new-curve-spec =
     tie.close
     (tie.spec
-    (λ c κs. search needs)  -- take-nth-requires
-    (λ c κs. search needs)  -- take-nth-requires-2
-    (λ c κs. search needs)  -- take-nth-requires-3
-    (λ c κs. search needs)  -- take-nth-requires-4
-    (λ c κs. search needs)  -- take-nth-requires-5
-    (λ c. first-fits (c .before .before .before))  -- cast-t21
-    (λ c. second-fits (c .before .before .before .before))  -- cast-t22
-    (λ c. search needs)  -- cast-t23
-    (λ c. search needs)  -- cast-t24
-    (λ c. search needs)  -- cast-t25
+    (λ c κs. tt)  -- one-requires
+    (λ c κs. search needs)  -- take-requires
+    (λ c κs. tt)  -- one-requires-2
+    (λ c κs. search needs)  -- take-requires-2
+    (λ c κs. tt)  -- one-requires-3
+    (λ c κs. search needs)  -- take-requires-3
+    (λ c κs. tt)  -- one-requires-4
+    (λ c κs. search needs)  -- take-requires-4
+    (λ c κs. tt)  -- one-requires-5
+    (λ c κs. search needs)  -- take-requires-5
+    (λ c. omega (arith, c .before .before .before .before .before .before .before .before .before .before .before .before .before .before .before .before .before .before .before .take .ensures .1))  -- cast-sdcycod
+    (λ c. omega (arith, c .before .before .before .before .before .before .before .before .before .before .before .before .before .before .before .before .take2 .ensures .1))  -- cast-fdcycod
+    (λ c. omega (arith, c .before .before .before .before .before .before .before .before .before .before .before .before .before .take3 .ensures .1))  -- cast-sgaincod
+    (λ c. omega (arith, c .before .before .before .before .before .before .before .before .before .before .take4 .ensures .1))  -- cast-dbpbcod
+    (λ c. omega (arith, c .before .before .before .before .before .before .before .take5 .ensures .1))  -- cast-floorcod
     (λ c. reads c .0 .long)  -- same-length
     reads)

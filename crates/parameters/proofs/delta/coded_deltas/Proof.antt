@@ -33,5 +33,5 @@ coded-deltas-spec =
     (λ c κs. search needs)  -- channel-codes-requires
     (λ c κs. search needs)  -- slot-deltas-requires
     sound
-    (λ c. search needs)  -- same-length
+    (λ c. reads c .0 .long)  -- same-length
     reads)

@@ -14,25 +14,26 @@ coded c =
     let t = c .before in
     let test = t .before .before in
     let f = test .before .before .before in
-    (then _ (f .flag-nth .ensures) (rw (test .if1 .taken) (t .coded-deltas .ensures .0)), t .coded-deltas .ensures .1)
+    (then _ (rw (f .before .one .ensures) at (f .flag .ensures)) (rw (test .if1 .taken) (t .coded-deltas .ensures .0)), t .coded-deltas .ensures .1)
 
 none : tie.Need-returns-2
 unfolding deltas
 none c =
     let f = c .before .before .before .before in
-    (then _ (f .flag-nth .ensures) (rw (c .before .if1 .left, eq-eqb _ 0 (c .if2 .taken)) finished), deltas-none)
+    (then _ (rw (f .before .one .ensures) at (f .flag .ensures)) (rw (c .before .if1 .left, eq-eqb _ 0 (c .if2 .taken)) finished), deltas-none)
 
 kept : tie.Need-returns-3
 unfolding deltas
 kept c =
     let f = c .before .before .before .before in
-    (then _ (f .flag-nth .ensures) (rw (c .before .if1 .left, ne-eqb _ 0 (c .if2 .left)) finished), f .before .before .before .pre .1)
+    (then _ (rw (f .before .one .ensures) at (f .flag .ensures)) (rw (c .before .if1 .left, ne-eqb _ 0 (c .if2 .left)) finished), f .before .before .before .before .pre .1)
 
 pub deltas-spec : {M : Type 1} → statement M
 deltas-spec =
     tie.close
     (tie.spec
-    (λ c κs. search needs)  -- flag-nth-requires
+    (λ c κs. tt)  -- one-requires
+    (λ c κs. search needs)  -- flag-requires
     (λ c κs. search needs)  -- coded-deltas-requires
     (λ c. search needs)  -- same-length
     coded

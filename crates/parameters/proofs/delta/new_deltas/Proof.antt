@@ -29,9 +29,9 @@ unfolding newDeltas
 reads c =
     let inv = c .before .loop .inv in
     let t = c .before .before .before .before .before in
-    let n = t .before .before in (
-      rw (← n .delta-name .ensures) (then _ (t .take-nth .ensures .0) (then _ (ends (inv .0) (c .loop-test .left)) finished)),
-      record { count = omega (arith, t .take-nth .ensures .1); codes = inv .1 },
+    let n = t .before .before .before in (
+      rw (← n .delta-name .ensures) (then _ (rw (t .before .nth .ensures) at (t .take .ensures .0)) (then _ (ends (inv .0) (c .loop-test .left)) finished)),
+      record { count = omega (arith, t .take .ensures .1); codes = inv .1 },
     )
 
 pub new-deltas-spec : {M : Type 1} → statement M
@@ -41,11 +41,12 @@ new-deltas-spec =
     Inv-loop
     μ-loop
     (λ c κs. search needs)  -- delta-name-requires
-    (λ c κs. search needs)  -- take-nth-requires
+    (λ c κs. tt)  -- nth-requires
+    (λ c κs. search needs)  -- take-requires
     (λ c. search needs)  -- cast-count
     (λ c. search needs)  -- add-count
     (λ c. (begins, codes-none))  -- loop-holds
-    (λ c κs. (omega (arith, c .before .before .before .before .before .before .take-nth .ensures .1), c .before .before .loop .inv .1))  -- segment-requires
+    (λ c κs. (omega (arith, c .before .before .before .before .before .before .take .ensures .1), c .before .before .loop .inv .1))  -- segment-requires
     (λ c. search needs)  -- add-seg
     (λ c. search needs)  -- loop-less
     again

@@ -11,7 +11,7 @@ unfolding couplingLeak
 new c =
     let t2 = c .before in
     let t1 = t2 .before .before .before .before .before in (
-      rw (t1 .before .before .if1 .taken) (then _ (t1 .flag-nth .ensures) (rw (t2 .before .before .if2 .taken) (t2 .new-leak .ensures .0))),
+      rw (t1 .before .before .before .if1 .taken) (then _ (rw (t1 .before .one .ensures) at (t1 .flag .ensures)) (rw (t2 .before .before .if2 .taken) (t2 .new-leak .ensures .0))),
       t2 .new-leak .ensures .1,
     )
 
@@ -19,8 +19,8 @@ kept : tie.Need-returns-2
 unfolding couplingLeak
 kept c =
     let t1 = c .before .before .before in (
-      rw (t1 .before .before .if1 .taken) (then _ (t1 .flag-nth .ensures) (rw (c .if2 .left) finished)),
-      t1 .before .before .before .before .pre,
+      rw (t1 .before .before .before .if1 .taken) (then _ (rw (t1 .before .one .ensures) at (t1 .flag .ensures)) (rw (c .if2 .left) finished)),
+      t1 .before .before .before .before .before .pre,
     )
 
 unused : tie.Need-returns-3
@@ -31,7 +31,8 @@ pub coupling-leak-spec : {M : Type 1} → statement M
 coupling-leak-spec =
     tie.close
     (tie.spec
-    (λ c κs. search needs)  -- flag-nth-requires
+    (λ c κs. tt)  -- one-requires
+    (λ c κs. search needs)  -- flag-requires
     (λ c κs. search needs)  -- new-leak-requires
     (λ c. search needs)  -- same-length
     new

@@ -9,19 +9,21 @@ reads : tie.Need-returns
 unfolding newLeak
 reads c =
     let t2 = c .before .before .before .before in
-    let t1 = t2 .before .before .before in (
-      then _ (t1 .take-nth .ensures .0)
-          (then _ (t2 .take-nth2 .ensures .0)
+    let t1 = t2 .before .before .before .before in (
+      then _ (rw (t1 .before .one .ensures) at (t1 .take .ensures .0))
+          (then _ (rw (t2 .before .one2 .ensures) at (t2 .take2 .ensures .0))
           finished),
-      record { cplfleak = t1 .take-nth .ensures .1; cplsleak = t2 .take-nth2 .ensures .1 },
+      record { cplfleak = t1 .take .ensures .1; cplsleak = t2 .take2 .ensures .1 },
     )
 
 pub new-leak-spec : {M : Type 1} → statement M
 new-leak-spec =
     tie.close
     (tie.spec
-    (λ c κs. search needs)  -- take-nth-requires
-    (λ c κs. search needs)  -- take-nth-requires-2
+    (λ c κs. tt)  -- one-requires
+    (λ c κs. search needs)  -- take-requires
+    (λ c κs. tt)  -- one-requires-2
+    (λ c κs. search needs)  -- take-requires-2
     (λ c. search needs)  -- cast-t12
     (λ c. search needs)  -- cast-t13
     (λ c. search needs)  -- same-length

@@ -12,7 +12,7 @@ reads c =
     let t3 = t4 .before .before .before in
     let t2 = t3 .before .before .before in
     let t1 = t2 .before .before .before .before in (
-      then _ (t1 .take-nth .ensures .0)
+      then _ (rw (t1 .before .one .ensures) at (t1 .take .ensures .0))
           (then _ (t2 .fine-offset-when .ensures .0)
           (then _ (t3 .channel-offsets .ensures .0)
           (t4 .fine-offset-when2 .ensures .0))),
@@ -23,7 +23,8 @@ pub new-offsets-spec : {M : Type 1} → statement M
 new-offsets-spec =
     tie.close
     (tie.spec
-    (λ c κs. search needs)  -- take-nth-requires
+    (λ c κs. tt)  -- one-requires
+    (λ c κs. search needs)  -- take-requires
     (λ c. search needs)  -- cast-o
     (λ c κs. search needs)  -- fine-offset-when-requires
     (λ c κs. search needs)  -- channel-offsets-requires

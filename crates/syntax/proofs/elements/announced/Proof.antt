@@ -9,7 +9,7 @@ reads c =
     let t2 = c .before in
     let t1 = t2 .before .before in
     then _ (rw (t1 .before .one .ensures) at (t1 .flag .ensures))
-    (then _ (judged (c .refuse-if .ensures) (t2 .lacking .ensures))
+    (then _ (judged (c .refuse-if .ensures) (t2 .and-not .ensures))
     finished)
 
 pub announced-spec : {M : Type 1} → statement M
@@ -18,7 +18,7 @@ announced-spec =
     (tie.spec
     (λ c κs. tt)  -- one-requires
     (λ c κs. search needs)  -- flag-requires
-    (λ c κs. search needs)  -- lacking-requires
+    (λ c κs. search needs)  -- and-not-requires
     (λ c κs. search needs)  -- refuse-if-requires
     (λ c. search needs)  -- same-length
     reads)

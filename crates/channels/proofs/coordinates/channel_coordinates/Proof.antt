@@ -12,9 +12,9 @@ sent c =
     let t3 = c .before in
     let t2 = t3 .before .before .before in
     let t1 = t2 .before .before .before .before .before in
-    there _ _ _ (t1 .before .before .if1 .taken)
+    there _ _ _ (t1 .before .before .before .if1 .taken)
     (then _ (rw (t1 .before .nth .ensures) at (t1 .flag .ensures))
-    (rw (t2 .before .before .if2 .taken)
+    (rw (t2 .before .before .before .if2 .taken)
     (then _ (then _ (rw (t2 .before .nth2 .ensures) at (t2 .note .ensures)) (t3 .coordinates .ensures))
     finished)))
 
@@ -22,7 +22,7 @@ unsent : tie.Need-returns-2
 unfolding channelCoordinates
 unsent c =
     let t1 = c .before .before in
-    there _ _ _ (t1 .before .before .if1 .taken)
+    there _ _ _ (t1 .before .before .before .if1 .taken)
     (then _ (rw (t1 .before .nth .ensures) at (t1 .flag .ensures))
     (then _ (omitted _ _ (c .if2 .left))
     finished))

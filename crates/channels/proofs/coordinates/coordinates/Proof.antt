@@ -1,5 +1,6 @@
 -- `channels::coordinates::coordinates` meets its contract: the invariant says which bands are left. Assumes nothing.
 use Prim.Native.Nat.{_-_}
+use native.Mathlib.Omega.{arith}
 use borrow.Author.Needs.{needs}
 use Rattle.syntax.proofs.Sequence.{Turns, begins, turn, ends, then}
 use Rattle.channels.specs.Coupling.{coordinate}
@@ -34,7 +35,7 @@ coordinates-spec =
     (λ c κs. search needs)  -- note-requires
     (λ c κs. tt)  -- nth-requires-2
     (λ c κs. search needs)  -- note-requires-2
-    (λ c. search needs)  -- add--bnd
+    (λ c. omega (arith, c .before .before .before .before .before .before .before .before .loop-test .taken, c .before .before .before .before .before .before .before .before .before .before .before .fits .ncplbnd))  -- add-bnd
     (λ c. search needs)  -- loop-less
     again
     (λ c. reads c .long)  -- same-length

@@ -12,7 +12,7 @@ new c =
     let t2 = t3 .before .before .before .before in
     let t1 = t2 .before .before .before .before .before .before in (
       then _ (t1 .announced .ensures)
-          (rw (t2 .before .before .if1 .taken)
+          (rw (t2 .before .before .before .if1 .taken)
           (then _ (rw (t2 .before .one .ensures) at (t2 .flag .ensures))
           (rw (t3 .before .before .if2 .taken)
           (t3 .new-coupling .ensures .0)))),
@@ -28,7 +28,7 @@ none c =
     let pre = t1 .before .before .before .pre in
     rw (t3 .uncoupled .ensures) (
       then _ (t1 .announced .ensures)
-          (rw (t2 .before .before .if1 .taken)
+          (rw (t2 .before .before .before .if1 .taken)
           (then _ (rw (t2 .before .one .ensures) at (t2 .flag .ensures))
           (rw (t3 .before .if2 .left) finished))),
       (record { cplbegf = pre .1 .0 .cplbegf; cplendf = pre .1 .0 .cplendf }, record { ncplbnd = pre .1 .1 .ncplbnd }),

@@ -17,7 +17,7 @@ refused c =
     let t3 = c .before .before in
     let t2 = t3 .before .before .before in
     let t1 = t2 .before .before .before .before in (
-      there _ _ _ (sym (t1 .and-not .ensures) ∙ t2 .before .before .if1 .taken)
+      there _ _ _ (sym (t1 .and-not .ensures) ∙ t2 .before .before .before .if1 .taken)
           (then _ (rw (t2 .before .nth .ensures) at (t2 .take .ensures .0))
           (then _ (judged (t3 .refuse-if .ensures) refl)
           (stopped (c .if2 .taken)))),
@@ -33,7 +33,7 @@ sent c =
     let start = t1 .before .before .before in
     let code = t2 .take .result .value in
     let small = ltb-false 60 code (t3 .refuse-if .ensures .passed (c .before .before .before .if2 .left)) in (
-      there _ _ _ (sym (t1 .and-not .ensures) ∙ t2 .before .before .if1 .taken)
+      there _ _ _ (sym (t1 .and-not .ensures) ∙ t2 .before .before .before .if1 .taken)
           (then _ (rw (t2 .before .nth .ensures) at (t2 .take .ensures .0))
           (then _ (judged (t3 .refuse-if .ensures) refl)
           finished)),
@@ -58,10 +58,10 @@ bandwidth-spec =
     (λ c κs. search needs)  -- refuse-if-requires
     (λ c. refused c .0 .long)  -- same-length
     refused
-    (λ c. search needs)  -- array-write-sent
+    (λ c. omega (arith, c .before .before .before .before .before .before .before .before .before .before .before .before .before .before .pre .0))  -- array-write-sent
     (λ c. search needs)  -- cast-chbwcod
-    (λ c. search needs)  -- mul-chbwcod
-    (λ c. search needs)  -- array-write-chbwcod
+    (λ c. omega (arith, c .before .before .before .before .before .before .before .before .before .before .before .before .before .before .before .pre .0))  -- mul-chbwcod
+    (λ c. omega (arith, c .before .before .before .before .before .before .before .before .before .before .before .before .before .before .before .pre .0))  -- array-write-chbwcod
     (λ c. sent c .0 .long)  -- same-length-2
     sent
     unsent)

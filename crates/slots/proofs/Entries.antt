@@ -9,10 +9,9 @@ use lib.Dec.{le→leb, lit<, lit≤}
 use lib.IntN.{ℤ, pos}
 use lib.Signed.{_≤ℤ_}
 use lib.ListN.{length, getD, set, replicate, length-replicate}
-use lib.Seq.{sets, getD-set-other}
-use Rattle.slots.specs.declared.Deltas.{Deltas}
+use lib.Seq.{sets}
 use Rattle.slots.specs.Slots.{noDeltas}
-use Rattle.slots.specs.Sound.{SoundRow, SoundExps, SoundCodes, SoundSegments, SoundDeltas}
+use Rattle.slots.specs.Sound.{Entries, SoundRow, SoundExps, SoundCodes, SoundSegments, SoundDeltas}
 
 module _ {A : Type 0} (P : A → Type 0) (d : A) where
   pub entry-set : (l : List A) (i j : ℕ) (v : A) → P (getD l i d) → P v → P (getD (set l j v) i d)
@@ -37,6 +36,14 @@ module _ {A : Type 0} (P : A → Type 0) (d : A) where
 
   pub every-replicate : (n : ℕ) (a : A) → P d → P a → (i : ℕ) → P (getD (replicate n a) i d)
   every-replicate n a p q i = entry-replicate n i a p q
+
+-- ---- numbers below a bound
+
+pub zeros-below : (k : ℕ) {n : ℕ} → 0 < n → Entries (replicate k 0) n
+zeros-below k {n} h = every-replicate (λ x. x < n) 0 k 0 h h
+
+pub set-below : (l : List ℕ) {n : ℕ} → Entries l n → (at v : ℕ) → v < n → Entries (set l at v) n
+set-below l {n} = every-set (λ x. x < n) 0 l
 
 -- ---- stores in a row
 
@@ -81,26 +88,11 @@ exps-set exps slot row h k i = entry-set SoundRow [] exps i slot row (h i) k
 -- ---- delta segments
 
 pub codes-none : SoundCodes (replicate 24 0)
-codes-none n = entry-replicate (λ x. x < 8) 0 24 (n * 3 + 2) 0 (lit< tt) (lit< tt)
+codes-none n = zeros-below 24 (lit< tt) (n * 3 + 2)
 
--- of the three stores of a segment only the last meets a code
-pub codes-set : (l : List ℕ) (seg offset len code : ℕ) → SoundCodes l → code < 8
-    → SoundCodes (set (set (set l (seg * 3) offset) (seg * 3 + 1) len) (seg * 3 + 2) code)
-codes-set l seg offset len code h k n =
-    let first = set l (seg * 3) offset in
-    let kept : getD (set first (seg * 3 + 1) len) (n * 3 + 2) 0 < 8 =
-    rw (getD-set-other first (seg * 3 + 1) (n * 3 + 2) len 0 (λ e. omega arith), getD-set-other l (seg * 3) (n * 3 + 2) offset 0 (λ e. omega arith)) (h n) in
-    entry-set (λ x. x < 8) 0 (set first (seg * 3 + 1) len) (n * 3 + 2) (seg * 3 + 2) code kept k
-
-none : SoundSegments noDeltas
-none = record { count = lit≤ tt; codes = codes-none }
+pub segments-none : SoundSegments noDeltas
+segments-none = record { count = lit≤ tt; codes = codes-none }
 
 -- where a frame begins
 pub deltas-none : SoundDeltas (replicate 7 noDeltas)
-deltas-none i = entry-replicate SoundSegments noDeltas 7 i noDeltas none none
-
-pub deltas-set : (l : List Deltas) (slot : ℕ) (d : Deltas) → SoundDeltas l → SoundSegments d → SoundDeltas (set l slot d)
-deltas-set l slot d h k i = entry-set SoundSegments noDeltas l i slot d (h i) k
-
-pub deltas-cleared : (l : List Deltas) (slot : ℕ) → SoundDeltas l → SoundDeltas (set l slot noDeltas)
-deltas-cleared l slot h = deltas-set l slot noDeltas h none
+deltas-none = every-replicate SoundSegments noDeltas 7 noDeltas segments-none segments-none

@@ -1,12 +1,11 @@
 -- `channels::ends::bandwidth` meets its contract: a code that was not refused is at most 60. Assumes nothing.
-use Prim.Native.Nat.{_<_}
 use native.Mathlib.Omega.{arith}
 use mathlib.Core.Path.{refl, sym, _∙_}
 use borrow.Author.Tests.{ltb-false}
 use borrow.Author.Needs.{needs}
 use Rattle.syntax.proofs.Sequence.{then, judged, stopped, finished}
 use Rattle.syntax.proofs.Under.{there, absent}
-use Rattle.slots.proofs.Entries.{every-set}
+use Rattle.slots.proofs.Entries.{set-below}
 use Rattle.channels.specs.Strategies.{bandwidth}
 use Rattle.channels.proofs.ends.bandwidth.Statement.{statement}
 use Rattle.channels.proofs.ends.bandwidth.Tie as tie
@@ -37,7 +36,7 @@ sent c =
           (then _ (rw (t2 .before .nth .ensures) at (t2 .take .ensures .0))
           (then _ (judged (t3 .refuse-if .ensures) refl)
           finished)),
-      record { chbwcod = every-set (λ n. n < 61) 0 (start .args .old .chbwcod) (start .pre .1 .chbwcod) (start .args .ch) code (omega (arith, small)) },
+      record { chbwcod = set-below (start .args .old .chbwcod) (start .pre .1 .chbwcod) (start .args .ch) code (omega (arith, small)) },
     )
 
 unsent : tie.Need-returns-3

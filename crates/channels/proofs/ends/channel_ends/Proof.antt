@@ -1,5 +1,5 @@
 -- `channels::ends::channel_ends` meets its contract: the invariant says which channels are left, and carries the ends along. Assumes nothing.
-use Prim.Native.Nat.{ℕ, _-_, _<_}
+use Prim.Native.Nat.{ℕ, _-_}
 use native.Mathlib.Omega.{arith}
 use mathlib.Core.List.{List}
 use lib.IntN.{ℤ}
@@ -8,7 +8,7 @@ use borrow.Author.Needs.{needs}
 use Rattle.syntax.specs.Grammar.{filling}
 use Rattle.syntax.proofs.Sequence.{Turns, begins, turn, ends, then, finished}
 use Rattle.slots.specs.Sound.{SoundEnds}
-use Rattle.slots.proofs.Entries.{every-set, every-replicate}
+use Rattle.slots.proofs.Entries.{zeros-below, set-below}
 use Rattle.channels.specs.Strategies.{channelEnd, channelEnds}
 use Rattle.channels.proofs.ends.channel_ends.Statement.{statement}
 use Rattle.channels.proofs.ends.channel_ends.Tie as tie
@@ -26,7 +26,7 @@ again c =
     let test = t1 .before in
     let at = test .before .loop in (
       λ s room. turn (at .inv .0 s room) (test .loop-test .taken) (then _ (t1 .channel-end .ensures .0 s room) finished),
-      every-set (λ n. n < 254) 0 (at .ends) (at .inv .1) (at .ch) _ (t1 .channel-end .ensures .1),
+      set-below (at .ends) (at .inv .1) (at .ch) _ (t1 .channel-end .ensures .1),
     )
 
 reads : tie.Need-returns Inv-loop μ-loop
@@ -39,7 +39,7 @@ channel-ends-spec =
     (tie.spec
     Inv-loop
     μ-loop
-    (λ c. (λ s room. begins, every-replicate (λ n. n < 254) 0 5 0 (omega arith) (omega arith)))  -- loop-holds
+    (λ c. (λ s room. begins, zeros-below 5 (omega arith)))  -- loop-holds
     (λ c κs. search needs)  -- channel-end-requires
     (λ c. search needs)  -- cast-ends
     (λ c. search needs)  -- mul-ends

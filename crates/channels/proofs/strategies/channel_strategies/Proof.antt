@@ -1,5 +1,5 @@
 -- `channels::strategies::channel_strategies` meets its contract: the invariant says which channels are left, and carries the codes along. Assumes nothing.
-use Prim.Native.Nat.{_-_, _<_}
+use Prim.Native.Nat.{_-_}
 use native.Mathlib.Omega.{arith}
 use lib.ListN.{replicate}
 use borrow.Author.Needs.{needs}
@@ -7,7 +7,7 @@ use Rattle.syntax.specs.Grammar.{take, nth, filling}
 use Rattle.syntax.specs.Names as Name
 use Rattle.syntax.proofs.Sequence.{Turns, begins, turn, ends, then, finished}
 use Rattle.slots.specs.Sound.{Entries}
-use Rattle.slots.proofs.Entries.{every-set, every-replicate}
+use Rattle.slots.proofs.Entries.{zeros-below, set-below}
 use Rattle.channels.specs.Strategies.{channelStrategies}
 use Rattle.channels.proofs.strategies.channel_strategies.Statement.{statement}
 use Rattle.channels.proofs.strategies.channel_strategies.Tie as tie
@@ -24,7 +24,7 @@ again c =
     let t1 = c .before .before .before in
     let test = t1 .before .before .before in
     let at = test .before .loop in
-    (turn (at .inv .0) (test .loop-test .taken) (then _ (rw (t1 .before .nth .ensures) at (t1 .take .ensures .0)) finished), every-set (λ n. n < 4) 0 (at .codes) (at .inv .1) (at .ch) _ (t1 .take .ensures .1))
+    (turn (at .inv .0) (test .loop-test .taken) (then _ (rw (t1 .before .nth .ensures) at (t1 .take .ensures .0)) finished), set-below (at .codes) (at .inv .1) (at .ch) _ (t1 .take .ensures .1))
 
 reads : tie.Need-returns Inv-loop μ-loop
 unfolding channelStrategies
@@ -36,7 +36,7 @@ channel-strategies-spec =
     (tie.spec
     Inv-loop
     μ-loop
-    (λ c. (begins, every-replicate (λ n. n < 4) 0 5 0 (omega arith) (omega arith)))  -- loop-holds
+    (λ c. (begins, zeros-below 5 (omega arith)))  -- loop-holds
     (λ c κs. tt)  -- nth-requires
     (λ c κs. search needs)  -- take-requires
     (λ c. search needs)  -- cast-codes

@@ -1,6 +1,6 @@
 -- `parameters::delta::cleared_if` meets its contract: the test says which. Assumes nothing.
 use borrow.Author.Needs.{needs}
-use Rattle.slots.proofs.Entries.{deltas-cleared}
+use Rattle.parameters.proofs.Segments.{deltas-cleared}
 use Rattle.parameters.proofs.delta.cleared_if.Statement.{statement}
 use Rattle.parameters.proofs.delta.cleared_if.Tie as tie
 

@@ -3,7 +3,7 @@ use borrow.Author.Needs.{needs}
 use borrow.Author.Tests.{eq-eqb, ne-eqb}
 use Rattle.syntax.proofs.Sequence.{then, finished}
 use Rattle.parameters.specs.Delta.{slotDeltas}
-use Rattle.slots.proofs.Entries.{deltas-set}
+use Rattle.parameters.proofs.Segments.{deltas-set}
 use Rattle.parameters.proofs.delta.slot_deltas.Statement.{statement}
 use Rattle.parameters.proofs.delta.slot_deltas.Tie as tie
 

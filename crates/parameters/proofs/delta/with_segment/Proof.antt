@@ -4,7 +4,7 @@ use native.Mathlib.Numerals.{add-one}
 use native.Mathlib.Omega.{arith}
 use mathlib.Core.Path.{_≡_}
 use borrow.Author.Needs.{needs}
-use Rattle.slots.proofs.Entries.{codes-set}
+use Rattle.parameters.proofs.Segments.{codes-set}
 use Rattle.parameters.proofs.delta.with_segment.Statement.{statement}
 use Rattle.parameters.proofs.delta.with_segment.Tie as tie
 

@@ -114,12 +114,13 @@ pub(crate) fn channel_exponents(
     let at = ch as usize;
     let strategies = layout.strategies;
     let strategy = strategies.chexpstr[at];
+    let ends = layout.ends;
     let set = Set {
         blk: layout.blk,
         slot: ch,
         strategy,
         start: 0,
-        end: layout.ends[at],
+        end: ends[at],
     };
     let e = slot_exponents(s, rows, c, exps, set, 14, cover);
     let gainrng = Item {

@@ -34,7 +34,7 @@ group-spec =
     (tie.spec
     (λ c κs. search needs)  -- bins-each-requires
     (λ c. search needs)  -- mul-at
-    (λ c. rw (c .before .bins-each .ensures) (omega arith))  -- mul-at-2
+    (λ c. rw (c .bins-each .ensures) (omega arith))  -- mul-at-2
     (λ c. rw (c .before .bins-each .ensures) (omega arith))  -- add-at
     (λ c κs. c .before .before .before .before .pre .1 .1 .1 .1)  -- take-group-requires
     (λ c κs. let pre = c .before .before .before .before .before .before .pre in (pre .1 .1 .0 .last, pre .1 .1 .1 .0))  -- unpack-requires

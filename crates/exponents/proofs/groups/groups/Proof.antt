@@ -3,6 +3,7 @@
 use mathlib.Core.Bool.{true}
 use mathlib.Core.Path.{_≡_}
 use Prim.Native.Nat.{_-_, _*_, _≤_}
+use native.Mathlib.Nat.{sub-zero}
 use native.Mathlib.Omega.{arith}
 use borrow.Author.Needs.{needs}
 use Rattle.syntax.proofs.Sequence.{Turns, begins, turn, ends, leaves}
@@ -60,7 +61,7 @@ groups-spec =
     Inv-loop
     μ-loop
     (λ c κs. search needs)  -- steps-requires
-    (λ c. let pre = c .before .before .pre in (begins, pre .1 .1 .0, pre .1 .1 .1))  -- loop-holds
+    (λ c. let pre = c .before .before .pre in (begins, pre .1 .1 .0, λ sure. rw (sub-zero (c .before .before .args .count)) (pre .1 .1 .1 sure)))  -- loop-holds
     fits
     (λ c. early c .0 .long)  -- same-length
     early

@@ -8,6 +8,7 @@ pub covers-spec : {M : Type 1} → statement M
 covers-spec =
     tie.close
     (tie.spec
+    (λ c. search needs)  -- cast-at
     (λ c. search needs)  -- element-copy-out-if1
     (λ c. search needs)  -- mul-if2
     (λ c. search needs)  -- element-copy-out-if2

@@ -37,6 +37,7 @@ slot-exponents-spec =
     (λ c κs. search needs)  -- covers-requires
     (λ c κs. search needs)  -- refuse-if-requires
     reused
+    (λ c. search needs)  -- cast-at
     (λ c. search needs)  -- mul-exponent-set
     (λ c. search needs)  -- index-1-exponent-set
     (λ c κs. search needs)  -- exponent-set-requires

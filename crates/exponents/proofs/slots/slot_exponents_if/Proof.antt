@@ -11,5 +11,5 @@ slot-exponents-if-spec =
     (tie.spec
     (λ c κs. search needs)  -- slot-exponents-requires
     (λ c. search needs)  -- same-length
-    (λ c. let t = c .before in rw (t .before .before .before .before .if1 .taken) (t .slot-exponents .ensures))  -- returns
+    (λ c. let t = c .before in rw (t .before .before .before .if1 .taken) (t .slot-exponents .ensures))  -- returns
     (λ c. (rw (c .if1 .left) finished, (c .before .before .pre .1 .1, all))))  -- returns-2

@@ -1,13 +1,13 @@
 // The exponents of a block (4.3.3, 6.1.3): for each slot a first exponent, and then differences, three to a group, each of
 // them for 1, 2 or 4 bins. `exponents` is public because the audio block stands in a crate above.
+mod by_slot;
 mod groups;
 mod sets;
-mod slots;
 mod unpack;
 
+use crate::by_slot::channel_exponents;
+use crate::by_slot::slot_exponents_if;
 use crate::sets::Set;
-use crate::slots::channel_exponents;
-use crate::slots::slot_exponents_if;
 use blocks::CPL;
 use blocks::Coupling;
 use blocks::Cover;

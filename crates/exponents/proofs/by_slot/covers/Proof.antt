@@ -1,8 +1,8 @@
--- `exponents::slots::covers` meets its contract: the test that decided says what `&&` gives. Assumes nothing.
+-- `exponents::by_slot::covers` meets its contract: the test that decided says what `&&` gives. Assumes nothing.
 use borrow.Author.Needs.{needs}
 use borrow.Author.Tests.{eq-eqb, ne-eqb}
-use Rattle.exponents.proofs.slots.covers.Statement.{statement}
-use Rattle.exponents.proofs.slots.covers.Tie as tie
+use Rattle.exponents.proofs.by_slot.covers.Statement.{statement}
+use Rattle.exponents.proofs.by_slot.covers.Tie as tie
 
 pub covers-spec : {M : Type 1} → statement M
 covers-spec =

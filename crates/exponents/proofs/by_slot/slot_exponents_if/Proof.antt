@@ -1,9 +1,9 @@
--- `exponents::slots::slot_exponents_if` meets its contract: the test says which of the two `readIf` is. Assumes nothing.
+-- `exponents::by_slot::slot_exponents_if` meets its contract: the test says which of the two `readIf` is. Assumes nothing.
 use borrow.Author.Needs.{needs}
 use Rattle.syntax.proofs.Sequence.{finished}
 use Rattle.exponents.proofs.Kept.{all}
-use Rattle.exponents.proofs.slots.slot_exponents_if.Statement.{statement}
-use Rattle.exponents.proofs.slots.slot_exponents_if.Tie as tie
+use Rattle.exponents.proofs.by_slot.slot_exponents_if.Statement.{statement}
+use Rattle.exponents.proofs.by_slot.slot_exponents_if.Tie as tie
 
 pub slot-exponents-if-spec : {M : Type 1} → statement M
 slot-exponents-if-spec =

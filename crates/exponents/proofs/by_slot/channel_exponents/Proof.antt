@@ -1,11 +1,11 @@
--- `exponents::slots::channel_exponents` meets its contract: a `then` for each call. Assumes nothing.
+-- `exponents::by_slot::channel_exponents` meets its contract: a `then` for each call. Assumes nothing.
 use native.Mathlib.Omega.{arith}
 use borrow.Author.Needs.{needs}
 use Rattle.syntax.proofs.Sequence.{then, finished}
 use Rattle.exponents.specs.Exponents.{channelExponents}
 use Rattle.exponents.proofs.Kept.{of-channel}
-use Rattle.exponents.proofs.slots.channel_exponents.Statement.{statement}
-use Rattle.exponents.proofs.slots.channel_exponents.Tie as tie
+use Rattle.exponents.proofs.by_slot.channel_exponents.Statement.{statement}
+use Rattle.exponents.proofs.by_slot.channel_exponents.Tie as tie
 
 sound : tie.Need-slot-exponents-requires
 sound c κs =

@@ -1,4 +1,4 @@
--- `exponents::slots::slot_exponents` meets its contract: the strategy says which of the two is read. Assumes nothing.
+-- `exponents::by_slot::slot_exponents` meets its contract: the strategy says which of the two is read. Assumes nothing.
 use mathlib.Core.Path.{ap}
 use mathlib.Core.Bool.{not}
 use borrow.Author.Needs.{needs}
@@ -7,8 +7,8 @@ use Rattle.syntax.proofs.Sequence.{then, judged, finished}
 use Rattle.blocks.proofs.Entries.{exps-set}
 use Rattle.exponents.specs.Exponents.{slotExponents}
 use Rattle.exponents.proofs.Kept.{all, others}
-use Rattle.exponents.proofs.slots.slot_exponents.Statement.{statement}
-use Rattle.exponents.proofs.slots.slot_exponents.Tie as tie
+use Rattle.exponents.proofs.by_slot.slot_exponents.Statement.{statement}
+use Rattle.exponents.proofs.by_slot.slot_exponents.Tie as tie
 
 reused : tie.Need-returns
 unfolding slotExponents

@@ -34,6 +34,16 @@ step before difference = do
   refuseIf (ltb (before + difference) 2 || ltb 26 (before + difference)) 17
   done (before + difference - 2)
 
+-- the three exponents of a group, from the exponent before it
+unfoldable pub unpack : (last group : ℕ) → Grammar (ℕ × ℕ × ℕ)
+unpack last group = do
+  refuseIf (ltb 124 group) 16
+  let (x, y, z) = differences group
+  a ← step last x
+  b ← step a y
+  c ← step b z
+  done (a, b, c)
+
 -- the last exponent that was made, and the row of all
 pub record Unpacked : Type 0 where
   pub last : ℕ
@@ -47,11 +57,8 @@ spread bins a b c = replicate bins (pos a) ++ replicate bins (pos b) ++ replicat
 unfoldable pub group : Item → (bins first n : ℕ) → Unpacked → Grammar Unpacked
 group item bins first n u = do
   grouped ← take item 7
-  refuseIf (ltb 124 grouped) 16
-  let (x, y, z) = differences grouped
-  a ← step (u .last) x
-  b ← step a y
-  c ← step b z
+  three ← unpack (u .last) grouped
+  let (a, b, c) = three
   done (record { last = c; row = sets (u .row) (first + n * (3 * bins)) (spread bins a b c) })
 
 -- the names of the first exponent and of the groups, and their index

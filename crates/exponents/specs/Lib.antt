@@ -1,3 +1,5 @@
 pub mod Exponents
+pub mod Reused
+pub mod Bytes
 pub mod AtHand
 pub mod Sound

@@ -1,17 +1,18 @@
 -- At hand: frame, input and room hold the groups that are left, so that none of them needs a test of its own. No part of the definition.
 use mathlib.Core.List.{List}
-use mathlib.Core.Path.{_≡_}
 use Prim.Native.Nat.{ℕ, _+_, _*_, _/_, _≤_}
 use lib.IntN.{ℤ}
 use lib.ListN.{length}
 use Rattle.syntax.specs.declared.Cursor.{Cursor}
+use Rattle.syntax.specs.Numbers.{rowWidth}
+use Rattle.syntax.specs.Reads.{Goes, afterRow}
 
 pub record AtHand (c : Cursor) (groups : ℕ) (s : List ℕ) (rows : List ℤ) : Type 0 where
-  pub goes : c .stop ≡ 0
+  pub goes : Goes c
   pub frame : c .at + 7 * groups ≤ c .limit
   pub bytes : (c .at + 7 * groups) / 8 + 2 ≤ length s
-  pub room : c .count + groups ≤ length rows / 8
+  pub room : c .count + groups ≤ length rows / rowWidth
 
 -- the cursor past one of them
 abbrev pub past : Cursor → Cursor
-past c = record { at = c .at + 7; limit = c .limit; count = c .count + 1; stop = 0 }
+past c = afterRow (c .at + 7) c

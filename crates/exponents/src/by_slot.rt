@@ -5,9 +5,11 @@ use crate::sets::Set;
 use crate::sets::exponent_set;
 use slots::Cover;
 use syntax::Cursor;
-use syntax::Item;
-use syntax::Role;
+use syntax::cursors::refuse_if;
+use syntax::elements::note_if;
+use syntax::items::nth;
 use syntax::names;
+use syntax::refusals::NO_CHANNEL_EXPONENTS;
 ghost use mathlib.Core.Path.{_≡_};
 ghost use Prim.Native.Nat.{_<_};
 ghost use Rattle.syntax.specs.Grammar.{readIf};
@@ -45,10 +47,10 @@ pub(crate) fn slot_exponents(
     c: Cursor,
     exps: &mut [[i16; 256]; 7],
     set: Set,
-    refusal: u8,
+    refusal: Refusal,
     cover: Cover,
 ) -> ExponentsRead
-    requires { ⌜ (0 < refusal) × (set .slot < 7) ⌝ }
+    requires { ⌜ (0 < refusal .number) × (set .slot < 7) ⌝ }
     requires { ⌜ (set .strategy < 4) × ((set .start < 254) × (set .end < 254)) ⌝ }
     requires { ⌜ SoundExps (now exps) ⌝ }
     ensures { λ r. ⌜ Reads (grammar.slotExponents (set .blk) refusal (set .slot) (set .strategy) (set .start) (set .end) (record { cover = cover; exps = now (exps .entry) })) (now (s .entry)) c (now (rows .entry))
@@ -57,7 +59,7 @@ pub(crate) fn slot_exponents(
     ensures { λ _. ⌜ Keeps (ReusedBut (set .slot) (set .strategy)) (now (exps .entry)) (now (exps .exit)) ⌝ }
 {
     if set.strategy == 0 {
-        let cursor = syntax::refuse_if(c, !covers(cover, set), refusal);
+        let cursor = refuse_if(c, !covers(cover, set), refusal);
         return ExponentsRead { cover, cursor };
     }
     let at = set.slot as usize;
@@ -76,10 +78,10 @@ pub(crate) fn slot_exponents_if(
     exps: &mut [[i16; 256]; 7],
     present: bool,
     set: Set,
-    refusal: u8,
+    refusal: Refusal,
     cover: Cover,
 ) -> ExponentsRead
-    requires { ⌜ (0 < refusal) × (set .slot < 7) ⌝ }
+    requires { ⌜ (0 < refusal .number) × (set .slot < 7) ⌝ }
     requires { ⌜ (set .strategy < 4) × ((set .start < 254) × (set .end < 254)) ⌝ }
     requires { ⌜ SoundExps (now exps) ⌝ }
     ensures { λ r. ⌜ Reads (readIf present (record { cover = cover; exps = now (exps .entry) })
@@ -122,14 +124,15 @@ pub(crate) fn channel_exponents(
         start: 0,
         end: ends[at],
     };
-    let e = slot_exponents(s, rows, c, exps, set, 14, cover);
-    let gainrng = Item {
-        name: names::GAINRNG,
-        role: Role::Plain,
-        block: layout.blk,
-        index: ch,
-    };
-    let cursor = syntax::note_when(s, rows, e.cursor, strategy != 0, gainrng, 2);
+    let e = slot_exponents(s, rows, c, exps, set, NO_CHANNEL_EXPONENTS, cover);
+    let cursor = note_if(
+        s,
+        rows,
+        e.cursor,
+        strategy != 0,
+        nth(layout.blk, names::GAINRNG, ch),
+        2,
+    );
     let cover = e.cover;
     ExponentsRead { cover, cursor }
 }

@@ -5,6 +5,8 @@ use crate::unpack::unpack;
 use syntax::Cursor;
 use syntax::Item;
 use syntax::Taken;
+use syntax::readers::take;
+use syntax::readers::take_at_hand;
 ghost use mathlib.Core.Path.{_≡_};
 ghost use mathlib.Core.Bool.{true};
 ghost use Prim.Native.Nat.{_+_, _*_, _<_, _≤_};
@@ -67,10 +69,10 @@ fn spread(row: &mut [i16; 256], at: usize, strategy: u8, three: Three)
 pub(crate) fn all_at_hand(s: &[u8], rows: &[i32], c: Cursor, count: usize) -> bool
     ensures { λ r. ⌜ (r ≡ true → AtHand c count (now (s .entry)) (now (rows .entry))) ⌝ }
 {
-    if c.stop != 0 {
+    if c.stop.number != 0 {
         return false;
     }
-    let left = rows.len() / 8;
+    let left = rows.len() / ROW;
     if left < count {
         return false;
     }
@@ -94,18 +96,9 @@ fn take_group(s: &[u8], rows: &mut [i32], c: Cursor, item: Item, sure: bool) -> 
     ensures { λ r. ⌜ (sure ≡ true → r .cursor ≡ past c) ⌝ }
 {
     if sure {
-        let value = syntax::take_at_hand(s, rows, c.at, c.count, item, 7);
-        return Taken {
-            value,
-            cursor: Cursor {
-                at: c.at + 7,
-                limit: c.limit,
-                count: c.count + 1,
-                stop: 0,
-            },
-        };
+        return take_at_hand(s, rows, c, item, 7);
     }
-    syntax::take(s, rows, c, item, 7)
+    take(s, rows, c, item, 7)
 }
 
 // The groups of a set: what they are recorded as, their strategy, the first bin, and whether they are surely at hand.
@@ -141,7 +134,7 @@ fn group(
     ensures { λ r. ⌜ Reads (grammar.group (set .item) (grammar.binsEach (set .strategy)) (set .first) n (record { last = last; row = now (row .entry) })) (now (s .entry)) c (now (rows .entry))
         (record { last = r .last; row = now (row .exit) }) (r .cursor) (now (rows .exit)) ⌝ }
     ensures { λ r. ⌜ SoundUnpacked (record { last = r .last; row = now (row .exit) }) ⌝ }
-    ensures { λ r. ⌜ (set .sure ≡ true → r .cursor .stop ≡ 0 → r .cursor ≡ past c) ⌝ }
+    ensures { λ r. ⌜ (set .sure ≡ true → Goes (r .cursor) → r .cursor ≡ past c) ⌝ }
 {
     let at = set.first + n * (3 * bins_each(set.strategy));
     let grouped = take_group(s, rows, c, set.item, set.sure);
@@ -179,7 +172,7 @@ pub(crate) fn groups(
         let next = group(s, rows, cursor, row, &steps, set, n, exponent);
         exponent = next.last;
         cursor = next.cursor;
-        if cursor.stop != 0 {
+        if cursor.stop.number != 0 {
             return GroupRead {
                 last: exponent,
                 cursor,

@@ -16,6 +16,8 @@ use slots::Strategies;
 use slots::first_coupled;
 use slots::past_coupled;
 use syntax::Cursor;
+use syntax::refusals::NO_COUPLING_EXPONENTS;
+use syntax::refusals::NO_LFE_EXPONENTS;
 ghost use Prim.Native.Nat.{_≤_};
 ghost use Rattle.syntax.specs.Reads.{Reads};
 ghost use Rattle.slots.specs.Sound.{SoundExps, SoundCoupling, SoundStrategies, SoundEnds};
@@ -65,7 +67,16 @@ pub fn exponents(
         start: first_coupled(coupling.cplbegf),
         end: past_coupled(coupling.cplendf),
     };
-    let e = slot_exponents_if(s, rows, c, exps, coupling.cplinu, coupled, 13, cover);
+    let e = slot_exponents_if(
+        s,
+        rows,
+        c,
+        exps,
+        coupling.cplinu,
+        coupled,
+        NO_COUPLING_EXPONENTS,
+        cover,
+    );
     let mut covered = e.cover;
     let mut cursor = e.cursor;
     for ch in 0..layout.nfchans {
@@ -80,5 +91,14 @@ pub fn exponents(
         start: 0,
         end: 7,
     };
-    slot_exponents_if(s, rows, cursor, exps, layout.lfeon, lfe, 15, covered)
+    slot_exponents_if(
+        s,
+        rows,
+        cursor,
+        exps,
+        layout.lfeon,
+        lfe,
+        NO_LFE_EXPONENTS,
+        covered,
+    )
 }

@@ -6,9 +6,9 @@ use crate::groups::groups;
 use slots::CPL;
 use slots::LFE;
 use syntax::Cursor;
-use syntax::Item;
-use syntax::Role;
+use syntax::items::nth;
 use syntax::names;
+use syntax::readers::take;
 ghost use mathlib.Core.Path.{_≡_};
 ghost use mathlib.Core.Bool.{cond};
 ghost use Prim.Native.Nat.{_-_, _<_};
@@ -102,16 +102,15 @@ pub(crate) fn exponent_set(
 {
     let index = exponent_index(set.slot);
     let name = name_of(set.slot, names::CPLABSEXP, names::LFEABSEXP, names::ABSEXP);
-    let absexp = syntax::take_nth(s, rows, c, set.blk, name, index, 4);
+    let absexp = take(s, rows, c, nth(set.blk, name, index), 4);
     let last = first_exponent(row, set.slot, absexp.value);
     let count = group_count(set);
     let grouped = Grouping {
-        item: Item {
-            name: name_of(set.slot, names::CPLEXPS, names::LFEEXPS, names::EXPS),
-            role: Role::Plain,
-            block: set.blk,
+        item: nth(
+            set.blk,
+            name_of(set.slot, names::CPLEXPS, names::LFEEXPS, names::EXPS),
             index,
-        },
+        ),
         strategy: set.strategy,
         first: first_grouped(set.slot, set.start),
         sure: all_at_hand(s, &*rows, absexp.cursor, count),

@@ -1,5 +1,8 @@
 // The three exponents of a group (6.1.3), from its number and the exponent before it. They are made, and judged, as one number with a byte for each.
 use syntax::Cursor;
+use syntax::cursors::refuse_if;
+use syntax::refusals::BAD_EXPONENT;
+use syntax::refusals::BAD_GROUP;
 ghost use mathlib.Core.Path.{_≡_};
 ghost use mathlib.Core.Bool.{false};
 ghost use mathlib.Core.List.{List};
@@ -189,10 +192,10 @@ pub(crate) fn unpack(c: Cursor, steps: &[u32; 125], last: u32, group: u32) -> Th
     requires { ⌜ Steps (now steps) ⌝ }
     ensures { λ r. ⌜ ((s : List ℕ) (room : List ℤ) → Reads (grammar.unpack last group) s c room (r .x, r .y, r .z) (r .cursor) room) ⌝ }
     ensures { λ r. ⌜ (r .x < 25) × ((r .y < 25) × (r .z < 25)) ⌝ }
-    ensures { λ r. ⌜ (r .cursor .stop ≡ 0 → r .cursor ≡ c) ⌝ }
+    ensures { λ r. ⌜ (r .cursor .stop .number ≡ 0 → r .cursor ≡ c) ⌝ }
 {
-    let known = syntax::refuse_if(c, 124 < group, 16);
-    if known.stop != 0 {
+    let known = refuse_if(c, 124 < group, BAD_GROUP);
+    if known.stop.number != 0 {
         return Three {
             x: 0,
             y: 0,
@@ -201,8 +204,8 @@ pub(crate) fn unpack(c: Cursor, steps: &[u32; 125], last: u32, group: u32) -> Th
         };
     }
     let three = last * EACH + steps[group as usize];
-    let cursor = syntax::refuse_if(known, any_outside(three), 17);
-    if cursor.stop != 0 {
+    let cursor = refuse_if(known, any_outside(three), BAD_EXPONENT);
+    if cursor.stop.number != 0 {
         return Three {
             x: 0,
             y: 0,

@@ -15,7 +15,7 @@ use Rattle.syntax.specs.Refusals.{past, full}
 use Rattle.syntax.specs.Numbers.{rowWidth, numbers}
 use Rattle.syntax.specs.Run.{spanning, row, check}
 use Rattle.syntax.specs.Place.{Place, Outcome, except}
-use Rattle.syntax.specs.Reads.{Goes, halted, from, recorded, entered, Writes}
+use Rattle.syntax.specs.Reads.{Goes, halted, afterRow, from, recorded, entered, Writes}
 use Rattle.syntax.proofs.Checks.{room-none, room-some, except-stop, except-clear}
 
 -- nothing is written from a cursor that stopped
@@ -41,7 +41,7 @@ module _ (i : Item) (w v : ℕ) {c : Cursor} {room : List ℤ} (on : Goes c) whe
     entered-full e = record { same = simp (eq-eqb (c .stop .number) 0 on) (sym (except-stop _ _ (room-none _ _ e))); unmoved = λ z. absurd (omega arith) }
 
     pub entered-row : 0 < length room / rowWidth - c .count
-        → Writes (entered i start w v) c room (record { at = start + w; limit = c .limit; count = c .count + 1; stop = c .stop })
+        → Writes (entered i start w v) c room (afterRow (start + w) c)
         (sets room (c .count * rowWidth) (numbers (row spanning i start w v)))
     unfolding from
     entered-row e = record { same = simp (eq-eqb (c .stop .number) 0 on) (sym (except-clear _ _ (room-some _ _ e))); unmoved = λ _. refl }

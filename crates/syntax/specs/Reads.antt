@@ -32,6 +32,10 @@ halted x c = record { at = c .at; limit = c .limit; count = c .count; stop = x }
 abbrev pub onward : ℕ → Cursor → Cursor
 onward bit c = record { at = bit; limit = c .limit; count = c .count; stop = c .stop }
 
+-- at another bit, with one more row
+abbrev pub afterRow : ℕ → Cursor → Cursor
+afterRow bit c = record { at = bit; limit = c .limit; count = c .count + 1; stop = c .stop }
+
 -- what goes on has nothing new to say of a refusal
 abbrev pub Unmoved : (c d : Cursor) → Type 0
 Unmoved c d = Goes d → d .stop ≡ c .stop

@@ -15,7 +15,7 @@ ghost use lib.ListN.{length};
 ghost use lib.IntN.{ℤ};
 ghost use Rattle.syntax.specs.Grammar as grammar;
 ghost use Rattle.syntax.specs.Numbers.{rowWidth};
-ghost use Rattle.syntax.specs.Reads.{goingAt, Reads};
+ghost use Rattle.syntax.specs.Reads.{Goes, afterRow, Reads};
 
 // Reads a value of at most 16 bits.
 pub fn take(s: &[u8], rows: &mut [i32], c: Cursor, item: Item, width: u16) -> Taken
@@ -28,23 +28,23 @@ pub fn take(s: &[u8], rows: &mut [i32], c: Cursor, item: Item, width: u16) -> Ta
     Taken { value, cursor }
 }
 
-// The same value where frame, input and room were found to hold it: the cursor stands after it then, and counts one row more.
-pub fn take_at_hand(
-    s: &[u8],
-    rows: &mut [i32],
-    at: u16,
-    count: usize,
-    item: Item,
-    width: u16,
-) -> u32
-    requires { ⌜ (width ≤ 9) × (at + width < 65536) × (at / 8 + 1 < length (now s)) × (count * rowWidth + rowWidth ≤ length (now rows)) ⌝ }
-    ensures { λ r. ⌜ ((limit : ℕ) → at + width ≤ limit
-        → Reads (grammar.take item width) (now (s .entry)) (goingAt at limit count) (now (rows .entry)) r (goingAt (at + width) limit (count + 1)) (now (rows .exit))) ⌝ }
-    ensures { λ r. ⌜ r < 2 ^ width ⌝ }
+// The same where frame, input and room were found to hold it: no test is left.
+pub fn take_at_hand(s: &[u8], rows: &mut [i32], c: Cursor, item: Item, width: u16) -> Taken
+    requires { ⌜ Goes c × (width ≤ 9) × (c .at + width ≤ c .limit) ⌝ }
+    requires { ⌜ (c .at / 8 + 1 < length (now s)) × (c .count * rowWidth + rowWidth ≤ length (now rows)) ⌝ }
+    ensures { λ r. ⌜ Reads (grammar.take item width) (now (s .entry)) c (now (rows .entry)) (r .value) (r .cursor) (now (rows .exit)) ⌝ }
+    ensures { λ r. ⌜ (r .value < 2 ^ width) × (r .cursor ≡ afterRow (c .at + width) c) ⌝ }
 {
-    let value = bits::get_at_hand(s, at as usize, width as usize);
-    write_row(rows, count * ROW, item, at, width, value);
-    value
+    let value = bits::get_at_hand(s, c.at as usize, width as usize);
+    write_row(rows, c.count * ROW, item, c.at, width, value);
+    let stop = c.stop;
+    let cursor = Cursor {
+        at: c.at + width,
+        limit: c.limit,
+        count: c.count + 1,
+        stop,
+    };
+    Taken { value, cursor }
 }
 
 // Reads a flag: one bit.

@@ -18,7 +18,7 @@ reads c =
     let g = c .before .before in
     let t = g .before .before .before in
     let entry = t .before .before .before .before .before .before .before in (
-      then _ (t .slot-exponents .ensures .0) (then _ (g .note-when .ensures) finished),
+      then _ (t .slot-exponents .ensures .0) (then _ (rw (g .before .nth .ensures) at (g .note-if .ensures)) finished),
       (t .slot-exponents .ensures .1 .0, of-channel (entry .args .layout .strategies) (entry .args .ch) (entry .pre .0 .0) (t .slot-exponents .ensures .1 .1)),
     )
 
@@ -30,6 +30,7 @@ channel-exponents-spec =
     (λ c. search needs)  -- mul-slot-exponents
     (λ c. search needs)  -- array-read-slot-exponents
     sound
-    (λ c κs. search needs)  -- note-when-requires
+    (λ c κs. tt)  -- nth-requires
+    (λ c κs. search needs)  -- note-if-requires
     (λ c. search needs)  -- same-length
     reads)

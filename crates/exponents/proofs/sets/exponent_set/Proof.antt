@@ -27,10 +27,10 @@ reads c =
     let count = name .before in
     let begun = count .before in
     let t = begun .before .before .before in
-    let n = t .before .before in
+    let n = t .before .before .before in
     let i = n .before in (
       rw (← i .exponent-index .ensures, ← n .name-of .ensures, ← name .name-of2 .ensures, ← count .group-count .ensures, ← first .first-grouped .ensures)
-          (then _ (t .take-nth .ensures .0) (rw (← begun .first-exponent .ensures .0) (then _ (g .groups .ensures .0) finished))),
+          (then _ (rw (t .before .nth .ensures) at (t .take .ensures .0)) (rw (← begun .first-exponent .ensures .0) (then _ (g .groups .ensures .0) finished))),
       g .groups .ensures .1 .row,
     )
 
@@ -40,7 +40,8 @@ exponent-set-spec =
     (tie.spec
     (λ c κs. search needs)  -- exponent-index-requires
     (λ c κs. search needs)  -- name-of-requires
-    (λ c κs. search needs)  -- take-nth-requires
+    (λ c κs. tt)  -- nth-requires
+    (λ c κs. search needs)  -- take-requires
     (λ c κs. search needs)  -- first-exponent-requires
     (λ c κs. search needs)  -- group-count-requires
     (λ c κs. search needs)  -- name-of-requires-2

@@ -5,6 +5,7 @@ use Prim.Native.Nat.{ℕ, _+_, _-_, _*_, _/_, _%_, _<_, _≤_}
 use native.Mathlib.Omega.{arith}
 use lib.Dec.{ltb}
 use borrow.Author.Tests.{le-ltb}
+use Rattle.syntax.specs.Refusals.{badExponent}
 use Rattle.syntax.specs.Grammar.{Grammar, done, _>>=_, _>>_, refuseIf}
 use Rattle.exponents.specs.Bytes.{Inside, Near, NearThree, ThreeInside}
 use Rattle.exponents.specs.Exponents.{step}
@@ -62,11 +63,11 @@ module _ (last d e f : ℕ) where
   steps = step last d >>= λ a. step a e >>= λ b. step b f >>= λ c. done (a, b, c)
 
   -- a test that fails where none of the three is outside refuses what the steps refuse
-  pub as-one : (bad : Bool) → (bad ≡ false → NoneOut) → (NoneOut → bad ≡ false) → steps ≡ (refuseIf bad 17 >> done (x - 2, y - 2, z - 2))
+  pub as-one : (bad : Bool) → (bad ≡ false → NoneOut) → (NoneOut → bad ≡ false) → steps ≡ (refuseIf bad badExponent >> done (x - 2, y - 2, z - 2))
   unfolding step _>>=_
   as-one bad none all = go (out x) (out y) (out z) refl refl refl bad refl
     where
-      go : (p q r : Bool) → out x ≡ p → out y ≡ q → out z ≡ r → (b : Bool) → bad ≡ b → steps ≡ (refuseIf b 17 >> done (x - 2, y - 2, z - 2))
+      go : (p q r : Bool) → out x ≡ p → out y ≡ q → out z ≡ r → (b : Bool) → bad ≡ b → steps ≡ (refuseIf b badExponent >> done (x - 2, y - 2, z - 2))
       go true q r i j k true h = rw i
       go false true r i j k true h = rw (i, j)
       go false false true i j k true h = rw (i, j, k)

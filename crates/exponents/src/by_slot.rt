@@ -5,6 +5,7 @@ use crate::sets::Set;
 use crate::sets::exponent_set;
 use slots::Cover;
 use syntax::Cursor;
+use syntax::Refusal;
 use syntax::cursors::refuse_if;
 use syntax::elements::note_if;
 use syntax::items::nth;

@@ -16,7 +16,7 @@ reads : tie.Need-returns
 unfolding channelExponents
 reads c =
     let g = c .before .before in
-    let t = g .before .before .before in
+    let t = g .before .before .before .before in
     let entry = t .before .before .before .before .before .before .before in (
       then _ (t .slot-exponents .ensures .0) (then _ (rw (g .before .nth .ensures) at (g .note-if .ensures)) finished),
       (t .slot-exponents .ensures .1 .0, of-channel (entry .args .layout .strategies) (entry .args .ch) (entry .pre .0 .0) (t .slot-exponents .ensures .1 .1)),

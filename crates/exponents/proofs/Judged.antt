@@ -5,7 +5,7 @@ use mathlib.Core.Path.{_≡_, sym, _∙_}
 use Prim.Native.Nat.{ℕ}
 use Rattle.syntax.specs.declared.Cursor.{Cursor}
 use Rattle.syntax.specs.Reads.{seen, Judged}
-use Rattle.syntax.proofs.Sequence.{finished, judged, Agree, agreed}
+use Rattle.syntax.proofs.Sequence.{finished, judged, agreed}
 
 pub let-go : {bad : Bool} {n : ℕ} {c d : Cursor} → Judged bad n c d → d .stop ≡ 0 → d ≡ c
 let-go {c = c} {d = d} h e =

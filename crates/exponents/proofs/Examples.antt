@@ -1,5 +1,5 @@
 -- A set of exponents, by computation: a slip that docs/DECISIONS.md lists would come out otherwise here. Assumes nothing.
-use mathlib.Core.List.{List, [], _∷_, _++_}
+use mathlib.Core.List.{[], _∷_}
 use mathlib.Core.Path.{_≡_, refl}
 use lib.IntN.{pos}
 use lib.ListN.{replicate}

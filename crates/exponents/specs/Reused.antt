@@ -1,4 +1,4 @@
--- Which slots' exponents a block leaves as they were: what was made of them stays true. Contracts cite it; no part of the definition.
+-- Which slots' exponents a block leaves as they were: what was made of these stays true. Contracts cite it. No part of the definition.
 use mathlib.Core.Bool.{cond}
 use mathlib.Core.List.{List, []}
 use mathlib.Core.Path.{_≡_}

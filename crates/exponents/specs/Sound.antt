@@ -1,5 +1,6 @@
--- What bounds a set of exponents while it is read. Contracts cite it, so that the code's indexes and sums are in range; no part of the definition.
-use Prim.Native.Nat.{ℕ, _<_}
+-- What bounds a set of exponents while it is read. Contracts cite it, so that the code's indexes and sums are in range. No part of the
+-- definition.
+use Prim.Native.Nat.{_<_}
 use Rattle.slots.specs.Sound.{SoundRow}
 use Rattle.exponents.specs.Exponents.{Unpacked}
 

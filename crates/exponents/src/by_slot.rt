@@ -42,7 +42,7 @@ fn covering(set: Set, cover: Cover) -> Cover
 }
 
 // New exponents of a slot, or those in force: a refusal where these cover other bins.
-pub(crate) fn slot_exponents(
+fn slot_exponents(
     s: &[u8],
     rows: &mut [i32],
     c: Cursor,

@@ -40,8 +40,8 @@ pub struct ExponentsRead {
     pub cursor: Cursor,
 }
 
-// The exponents of a block: coupling, the channels, LFE. Those in force are lent; their cover goes in by value and comes back. A slot whose strategy
-// is 0 keeps its exponents, also where reading stops: what was made of them stays true.
+// The exponents of a block: coupling, the channels, LFE. Those in force are lent; their cover goes in by value and comes back. A slot whose
+// strategy is 0 keeps its exponents, also where reading stops: what was made of them stays true.
 pub fn exponents(
     s: &[u8],
     rows: &mut [i32],

@@ -1,4 +1,5 @@
-// The three exponents of a group (6.1.3), from its number and the exponent before it. They are made, and judged, as one number with a byte for each.
+// The three exponents of a group (6.1.3), from its number and the exponent before it. They are made, and judged, as one number with a byte
+// for each.
 use syntax::Cursor;
 use syntax::cursors::refuse_if;
 use syntax::refusals::BAD_EXPONENT;
@@ -15,8 +16,8 @@ ghost use Rattle.exponents.specs.Bytes.{Steps, Unmarked, NearThree, Thre
 // The same number in each of three bytes.
 const EACH: u32 = 0x010101;
 
-// What a group adds to the exponent before it, a byte for each of its three exponents (the first is the lowest): its differences so far, and 64,
-// so that no sum is negative. Looked up instead of divided.
+// What a group adds to the exponent before it, a byte for each of its three exponents (the first is the lowest): its differences so far,
+// and 64, so that no sum is negative. Looked up instead of divided.
 const STEPS: [u32; 125] = [
     0x3a3c3e,
     0x3b3c3e,

@@ -1,8 +1,8 @@
--- `exponents::groups::groups` meets its contract: the invariant says which groups are left, and that they are at hand where they surely were.
+-- `exponents::groups::groups` meets its contract: the invariant says which groups are left, and that those are at hand where all were.
 -- Assumes nothing.
 use mathlib.Core.Bool.{true}
 use mathlib.Core.Path.{_≡_}
-use Prim.Native.Nat.{_-_, _*_, _≤_}
+use Prim.Native.Nat.{_-_, _*_}
 use native.Mathlib.Nat.{sub-zero}
 use native.Mathlib.Omega.{arith}
 use borrow.Author.Needs.{needs}

@@ -1,7 +1,6 @@
 -- `exponents::unpack::unpack` meets its contract: the three bytes are the three exponents, with 64 added, and one test of them refuses what
 -- the three steps refuse. Assumes nothing.
-use mathlib.Core.Bool.{false}
-use mathlib.Core.Path.{_≡_, refl, _∙_}
+use mathlib.Core.Path.{refl, _∙_}
 use Prim.Native.Nat.{ℕ, _+_, _*_, _/_, _%_, _≤_}
 use native.Mathlib.Omega.{arith}
 use lib.ListN.{getD}

@@ -2,6 +2,8 @@
 //! output against the judge's. Prints what was compared; status 1 on a difference, or where a refusal or a case to be compared by name was
 //! not met.
 
+use compare_burst::layout::BurstAnswer;
+use compare_burst::raw;
 use judge::burst_cases::{fresh, Asked, Bursts, Case, FUNCTIONS};
 use judge::cases::Amounts;
 use judge::hex;
@@ -12,7 +14,7 @@ fn first<T: PartialEq + Copy>(judge: &[T], port: &[T]) -> Option<(usize, T, T)> 
     Some((at, judge[at], port[at]))
 }
 
-fn show(case: &Case<'_>, answer: [i32; 3], room: &[i32], out: &[u8]) {
+fn show(case: &Case<'_>, answer: BurstAnswer, room: &[i32], out: &[u8]) {
     match case.asked {
         Asked::Write { capture, place } => {
             println!("write place {place} of {}", hex::of(capture));
@@ -46,11 +48,11 @@ fn main() {
     let (mut differences, mut numbers, mut bytes) = (0, 0, 0);
     let mut compare = |case: &Case<'_>| {
         let (mut room, mut out) = fresh(case.room.len(), case.out.len());
-        let answer = match case.asked {
+        let (answer, _) = match case.asked {
             Asked::Write { capture, place } => {
-                compare_burst::write(capture, place, &mut room, &mut out)
+                raw::burst_write(capture, place, &mut room, &mut out)
             }
-            Asked::Read { burst } => compare_burst::read(burst, &mut room, &mut out),
+            Asked::Read { burst } => raw::burst_read(burst, &mut room, &mut out),
         };
         numbers += room.len();
         bytes += out.len();

@@ -4,8 +4,8 @@ use mathlib.Core.List.{List}
 use Prim.Native.Nat.{ℕ, _+_, _*_}
 use lib.IntN.{ℤ, pos, natAbs, _+ℤ_, _-ℤ_, _*ℤ_}
 use lib.ListN.{getD}
-use lib.Signed.{shrZ, _≤ℤ_}
-use Rattle.signed.specs.Level.{maxZ, clampZ}
+use lib.Signed.{_≤ℤ_}
+use Rattle.signed.specs.Level.{maxZ}
 use Rattle.tables.specs.Tables.{hearing, bap}
 use Rattle.alloc.specs.Allocation.{at, overKnee, threshold, mappedPsd, integratedPsd, excitation, maskingCurve, deltaApplied, thresholds}
 use Rattle.alloc.specs.declared.Parameters.{Parameters}
@@ -34,16 +34,9 @@ relative exponent = pos 0 -ℤ exponent *ℤ pos 128
 abbrev pub relativeAt : List ℤ → ℕ → ℤ
 relativeAt exponents bin = relative (at exponents bin)
 
--- the address of exponent 0 before it is clamped, and a bin's clamped address from there
-unfoldable pub stepOf : ℤ → ℤ
-stepOf threshold = shrZ (pos 3072 -ℤ threshold) 32
+-- the threshold of a band
+unfoldable pub thresholdAt : (excite here : ℤ) (knee quiet : ℕ) (delta snr floor : ℤ) → ℤ
+thresholdAt excite here knee quiet delta snr floor = threshold (maxZ (overKnee excite here knee) (pos quiet) +ℤ delta) snr floor
 
-unfoldable pub addressFrom : ℤ → ℤ → ℕ
-addressFrom step exponent = clampZ (step -ℤ exponent *ℤ pos 4) 63
-
--- the step of a band
-unfoldable pub stepAt : (excite here : ℤ) (knee quiet : ℕ) (delta snr floor : ℤ) → ℤ
-stepAt excite here knee quiet delta snr floor = stepOf (threshold (maxZ (overKnee excite here knee) (pos quiet) +ℤ delta) snr floor)
-
-abbrev pub stepBy : (excite here delta : ℕ → ℤ) (knee fscod : ℕ) (snr floor : ℤ) → ℕ → ℤ
-stepBy excite here delta knee fscod snr floor band = stepAt (excite band) (here band) knee (getD hearing (50 * fscod + band) 0) (delta band) snr floor
+abbrev pub thresholdBy : (excite here delta : ℕ → ℤ) (knee fscod : ℕ) (snr floor : ℤ) → ℕ → ℤ
+thresholdBy excite here delta knee fscod snr floor band = thresholdAt (excite band) (here band) knee (getD hearing (50 * fscod + band) 0) (delta band) snr floor

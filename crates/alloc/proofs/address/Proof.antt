@@ -1,57 +1,43 @@
--- `alloc::address` meets its contract: an exponent times 4 fits, and the two tests clamp. Assumes nothing.
-use mathlib.Core.Path.{_≡_, _∙_, sym, ap}
-use Prim.Native.Nat.{ℕ, _*_, _%_, _≤_}
-use native.Mathlib.Omega.{arith}
+-- `alloc::address` meets its contract: the difference fits, the shift is the definition's, and the two tests clamp. Assumes nothing.
+use mathlib.Core.Path.{_≡_, _∙_}
 use borrow.Author.Needs.{needs}
-use lib.IntN.{ℤ, pos, natAbs, _-ℤ_}
-use mir.Syntax.{w16}
-use mir.Val.{toZ, ofZ, SFits}
-use mir.ValLaws.{toZ-ofZ, toZ-pos}
-use Rattle.signed.specs.Bound.{Below, fits-16, back-16, below-more, below-sub}
-use Rattle.signed.specs.Level.{maxZ, clampZ}
-use Rattle.alloc.specs.Steps.{addressFrom}
-use Rattle.alloc.proofs.Bounded.{natural}
-use Rattle.alloc.proofs.Shifted.{clamped}
+use lib.IntN.{ℤ, pos, _-ℤ_}
+use lib.Signed.{shrZ}
+use mir.Syntax.{w32}
+use mir.Val.{toZ, ofZ}
+use mir.ValLaws.{toZ-ofZ}
+use Rattle.signed.specs.Bound.{Below, back-32, below-down, below-more, below-sub, fits-32}
+use Rattle.signed.specs.Level.{maxZ}
+use Rattle.alloc.specs.Allocation.{addressOf}
+use Rattle.alloc.proofs.Clamped.{clamped}
 use Rattle.alloc.proofs.address.Statement.{statement}
 use Rattle.alloc.proofs.address.Tie as tie
 
 module _ (s : tie.Start) where
-  abbrev n : ℕ
-  n = natAbs (s .args .exponent)
+  abbrev apart : ℤ
+  apart = s .args .psd -ℤ s .args .mask
 
-  small : n ≤ 24
-  small = natural (s .args .exponent) (s .pre .1) (s .pre .2) .1
+  small : Below 15 apart
+  small = below-sub (below-more (s .pre .0) tt) (s .pre .1) tt
 
-  exponent : s .args .exponent ≡ pos n
-  exponent = natural (s .args .exponent) (s .pre .1) (s .pre .2) .0
+  apart-is : toZ w32 (ofZ w32 (s .args .psd)) -ℤ toZ w32 (ofZ w32 (s .args .mask)) ≡ apart
+  apart-is = rw (toZ-ofZ w32 (s .args .psd) (s .fits .psd), toZ-ofZ w32 (s .args .mask) (s .fits .mask))
 
-  lowered : toZ w16 ((ofZ w16 (s .args .exponent) * 4) % 65536) ≡ pos (n * 4)
-  lowered =
-      let h = small in
-      let whole : (n * 4) % 65536 ≡ n * 4 = omega arith in
-      rw exponent (rw whole (toZ-pos w16 (n * 4) (omega arith)))
-
-  fits : SFits w16 (s .args .step -ℤ pos (n * 4))
-  fits =
-      let h = small in
-      let times : Below 10 (pos (n * 4)) = record { below = omega arith } in
-      fits-16 (below-more (below-sub {k = 11} (s .pre .0) times tt) tt)
-
-  from : addressFrom (s .args .step) (s .args .exponent) ≡ clampZ (s .args .step -ℤ pos (n * 4)) 63
-  unfolding addressFrom
-  from = rw exponent
+  shifted : toZ w32 (ofZ w32 (shrZ (toZ w32 (ofZ w32 (toZ w32 (ofZ w32 (s .args .psd)) -ℤ toZ w32 (ofZ w32 (s .args .mask))))) 32)) ≡ shrZ apart 32
+  shifted =
+      let whole = back-32 apart (below-more {k = 31} small tt .below) in
+      rw (apart-is, whole) (back-32 _ (below-more {j = 10} {k = 31} (below-down 5 small) tt .below))
 
 pub address-spec : {M : Type 1} → statement M
+unfolding addressOf
 address-spec =
     tie.close
     (tie.spec
-    (λ c. rw (toZ-ofZ w16 (c .args .step) (c .fits .step), lowered c) (fits c))
+    (λ c. rw (apart-is c) (fits-32 (below-more (small c) tt)))
     (λ c κs. search needs)
     (λ c κs. search needs)
     (λ c.
     let s = c .before .before in
-    let apart = s .args .step -ℤ pos (n s * 4) in
-    let step = toZ-ofZ w16 (s .args .step) (s .fits .step) in
-    let low : toZ w16 (ofZ w16 (c .before .at-least-0 .result)) ≡ maxZ apart (pos 0) =
-    back-16 _ (c .before .at-least-0 .ok) ∙ c .before .at-least-0 .ensures ∙ rw (step, lowered s, toZ-ofZ w16 apart (fits s)) in
-    back-16 _ (c .at-most-63 .ok) ∙ c .at-most-63 .ensures ∙ rw low (clamped apart) ∙ ap pos (sym (from s))))
+    let low : toZ w32 (ofZ w32 (c .before .max .result)) ≡ maxZ (shrZ (apart s) 32) (pos 0) =
+    back-32 _ (c .before .max .ok) ∙ c .before .max .ensures ∙ rw (shifted s) in
+    back-32 _ (c .at-most-63 .ok) ∙ c .at-most-63 .ensures ∙ rw low (clamped (shrZ (apart s) 32))))

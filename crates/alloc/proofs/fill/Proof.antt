@@ -4,7 +4,7 @@ use Prim.Native.Nat.{_-_, _≤_}
 use native.Mathlib.Omega.{arith}
 use borrow.Author.Needs.{needs}
 use lib.IntN.{pos}
-use mir.Syntax.{w16}
+use mir.Syntax.{w32}
 use mir.Val.{toZ}
 use mir.ValLaws.{toZ-ofZ}
 use Rattle.alloc.specs.Fills.{Fills}
@@ -13,10 +13,10 @@ use Rattle.alloc.proofs.fill.Statement.{statement}
 use Rattle.alloc.proofs.fill.Tie as tie
 
 abbrev Inv-loop : tie.InvT-loop
-Inv-loop out₀ first last step bin₀ out bin = (first ≤ bin) × (bin ≤ last) × Fills (pos 0) first bin (λ j. toZ w16 step) out₀ out
+Inv-loop out₀ first last threshold bin₀ out bin = (first ≤ bin) × (bin ≤ last) × Fills (pos 0) first bin (λ j. toZ w32 threshold) out₀ out
 
 abbrev μ-loop : tie.MeasureT-loop
-μ-loop out₀ first last step bin₀ out bin = last - bin
+μ-loop out₀ first last threshold bin₀ out bin = last - bin
 
 pub fill-spec : {M : Type 1} → statement M
 fill-spec =
@@ -35,4 +35,4 @@ fill-spec =
     (λ c.
     let s = c .before .before in
     let end : c .before .loop .bin ≡ s .args .last = omega arith in
-    rw (end, toZ-ofZ w16 (s .args .step) (s .fits .step)) at (c .before .loop .inv .2)))
+    rw (end, toZ-ofZ w32 (s .args .threshold) (s .fits .threshold)) at (c .before .loop .inv .2)))

@@ -1,4 +1,4 @@
--- `alloc::spread` meets its contract. The loop's invariant: the bins of the bands before `band` have their steps.
+-- `alloc::spread` meets its contract. The loop's invariant: the bins of the bands before `band` have their thresholds.
 -- Assumes nothing.
 use mathlib.Core.Path.{_≡_, _∙_, sym, ap}
 use Prim.Native.Nat.{ℕ, _+_, _-_, _≤_, _<_}
@@ -6,7 +6,7 @@ use native.Mathlib.Nat.{le-refl}
 use native.Mathlib.Omega.{arith}
 use borrow.Author.Needs.{needs}
 use lib.IntN.{ℤ, pos}
-use Rattle.signed.specs.Bound.{back-16}
+use Rattle.signed.specs.Bound.{back-32}
 use Rattle.alloc.specs.Allocation.{at, bandOf, startOf}
 use Rattle.alloc.specs.Fills.{Fills}
 use Rattle.alloc.proofs.Bands.{start-at, start-after, start-mono, last-start, band-at}
@@ -15,10 +15,10 @@ use Rattle.alloc.proofs.spread.Statement.{statement}
 use Rattle.alloc.proofs.spread.Tie as tie
 
 abbrev Inv-loop : tie.InvT-loop
-Inv-loop out₀ ends steps first last width band₀ out band = (first ≤ band) × (band ≤ last) × Fills (pos 0) (startOf first) (startOf band) (λ bin. at steps (bandOf bin)) out₀ out
+Inv-loop out₀ ends thresholds first last width band₀ out band = (first ≤ band) × (band ≤ last) × Fills (pos 0) (startOf first) (startOf band) (λ bin. at thresholds (bandOf bin)) out₀ out
 
 abbrev μ-loop : tie.MeasureT-loop
-μ-loop out₀ ends steps first last width band₀ out band = last - band
+μ-loop out₀ ends thresholds first last width band₀ out band = last - band
 
 -- the band's bins
 module _ (c : tie.After-wide Inv-loop μ-loop) where
@@ -38,14 +38,14 @@ module _ (c : tie.After-wide Inv-loop μ-loop) where
   inside = rw (← last-start) (start-mono (band + 1) 50 (omega arith) (le-refl 50))
 
 -- the bins of one band more
-one-band : (c : tie.After-fill Inv-loop μ-loop) → Fills (pos 0) (startOf (band (c .before .before .before))) (startOf (band (c .before .before .before) + 1)) (λ bin. at (begin (c .before .before .before) .args .steps .now) (bandOf bin)) (c .before .before .before .before .before .before .loop .out) (c .fill .last .0)
+one-band : (c : tie.After-fill Inv-loop μ-loop) → Fills (pos 0) (startOf (band (c .before .before .before))) (startOf (band (c .before .before .before) + 1)) (λ bin. at (begin (c .before .before .before) .args .thresholds .now) (bandOf bin)) (c .before .before .before .before .before .before .loop .out) (c .fill .last .0)
 one-band c =
     let w = c .before .before .before in
-    let step = back-16 (at (begin w .args .steps .now) (band w)) (c .before .fill-arg2 .given) in
+    let threshold = back-32 (at (begin w .args .thresholds .now) (band w)) (c .before .fill-arg2 .given) in
     fills-moved _ _ _ (from-is w) (to-is w)
     (λ bin p q.
     let end = start-after (band w) in
-    step ∙ ap (at (begin w .args .steps .now)) (sym (band-at bin (band w) (omega arith) p (omega arith))))
+    threshold ∙ ap (at (begin w .args .thresholds .now)) (sym (band-at bin (band w) (omega arith) p (omega arith))))
     (c .fill .ensures)
 
 pub spread-spec : {M : Type 1} → statement M

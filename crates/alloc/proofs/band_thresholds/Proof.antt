@@ -1,4 +1,4 @@
--- `alloc::band_steps` meets its contract: stage by stage, the entries of each array are the definition's. Assumes nothing.
+-- `alloc::band_thresholds` meets its contract: stage by stage, the entries of each array are the definition's. Assumes nothing.
 use mathlib.Core.Path.{_≡_, _∙_, ap, ap₂}
 use Prim.Native.Nat.{ℕ, _+_, _-_, _≤_, _<_, _^_}
 use native.Mathlib.Omega.{arith}
@@ -8,14 +8,14 @@ use Rattle.signed.specs.Bound.{Below, back-32, below-is, below-more, below-read
 use Rattle.alloc.specs.Allocation.{at, psdAt, bandPsd, bndstrt, bndend, leakBefore}
 use Rattle.alloc.specs.Fills.{within}
 use Rattle.alloc.specs.Leaks.{exciteAt}
-use Rattle.alloc.specs.Steps.{stepBy, bandsOf}
+use Rattle.alloc.specs.Steps.{thresholdBy, bandsOf}
 use Rattle.alloc.specs.declared.Parameters.{Parameters}
 use Rattle.alloc.proofs.Bands.{in-order}
 use Rattle.alloc.proofs.Filled.{everywhere, filled-in, fills-fresh}
 use Rattle.alloc.proofs.Leaks.{excite-below}
-use Rattle.alloc.proofs.Stages.{within-below, bands-are, bands-below, exciteOf, step-is}
-use Rattle.alloc.proofs.band_steps.Statement.{statement}
-use Rattle.alloc.proofs.band_steps.Tie as tie
+use Rattle.alloc.proofs.Stages.{within-below, bands-are, bands-below, exciteOf, threshold-by}
+use Rattle.alloc.proofs.band_thresholds.Statement.{statement}
+use Rattle.alloc.proofs.band_thresholds.Tie as tie
 
 module _ (s : tie.Start) where
   gains-fit : (s .args .p .gains .fgain < 2 ^ 16) × (s .args .p .gains .sgain < 2 ^ 16)
@@ -72,8 +72,8 @@ module _ (c : tie.After-excitations) where
       (within-below (s .args .first) (s .args .last) (exciteBy (at (levels .band-levels .last .0)))
       (λ j. excite-below (p levels .gains) (gains-fit s) (at (levels .band-levels .last .0)) (bands-small levels) (s .args .last) (s .args .first) (leakBefore (p levels)) (rw (c .before .leak-before .ensures .0) at (c .before .leak-before .ensures .1)) (j - s .args .first)) k)
 
-steps-requires : tie.Need-steps-requires
-steps-requires c κs =
+thresholds-requires : tie.Need-thresholds-requires
+thresholds-requires c κs =
     let d = c .before .before .before .before .before .before in
     let e = d .before .before .before .before in
     let s = begin (levels e) in
@@ -100,17 +100,17 @@ returns c band a b =
     let floor = back-32 (q .floor) (below-more {k = 31} (s .pre .5 .floor) tt .below) in
     let delta = at (d .deltas .result) in
     let excite = at (e .excitations .last .0) in
-    let step : ℕ → ℤ = stepBy excite (at (levels e .band-levels .last .0)) delta (q .dbknee) (q .fscod) (q .snroffset) (q .floor) in
-    let made : at (c .steps .result) band ≡ step band =
-    rw (snr, floor) at (c .steps .ensures band) ∙ filled-in step (λ _. pos 0) (s .args .first) (s .args .last) band a b in
+    let limit : ℕ → ℤ = thresholdBy excite (at (levels e .band-levels .last .0)) delta (q .dbknee) (q .fscod) (q .snroffset) (q .floor) in
+    let made : at (c .thresholds .result) band ≡ limit band =
+    rw (snr, floor) at (c .thresholds .ensures band) ∙ filled-in limit (λ _. pos 0) (s .args .first) (s .args .last) band a b in
     let first = first-is s in
     let last = last-is s in
     made
-    ∙ ap (λ (level : ℕ → ℤ). stepBy excite level delta (q .dbknee) (q .fscod) (q .snroffset) (q .floor) band) (bands (levels e))
-    ∙ step-is (s .args .exponents .now) q band (omega arith) (omega arith) excite delta (excite-is e band a b) (d .deltas .ensures .0 band (omega arith))
+    ∙ ap (λ (level : ℕ → ℤ). thresholdBy excite level delta (q .dbknee) (q .fscod) (q .snroffset) (q .floor) band) (bands (levels e))
+    ∙ threshold-by (s .args .exponents .now) q band (omega arith) (omega arith) excite delta (excite-is e band a b) (d .deltas .ensures .0 band (omega arith))
 
-pub band-steps-spec : {M : Type 1} → statement M
-band-steps-spec =
+pub band-thresholds-spec : {M : Type 1} → statement M
+band-thresholds-spec =
     tie.close
     (tie.spec
     (λ c κs. search needs)
@@ -124,5 +124,5 @@ band-steps-spec =
     (rw (c .before .before .before .before .no-bands2 .ensures), omega arith, omega arith, c .leak-before .ensures .1, bands-small l))
     (λ c κs. search needs)
     (λ c κs. search needs)
-    steps-requires
+    thresholds-requires
     returns)

@@ -1,4 +1,4 @@
--- `alloc::steps_by_bin` meets its contract: bands of each width in turn, and every bin below 253 is in one of them.
+-- `alloc::by_bin` meets its contract: bands of each width in turn, and every bin below 253 is in one of them.
 -- Assumes nothing.
 use mathlib.Core.Path.{_≡_, _∙_, refl, sym, ap}
 use Prim.Native.Nat.{ℕ, _≤_, _<_, zero-le}
@@ -12,37 +12,37 @@ use Rattle.alloc.specs.Allocation.{at, bandOf, startOf}
 use Rattle.alloc.specs.Fills.{Fills}
 use Rattle.alloc.proofs.Bands.{width, narrow, band-at, band-of, start-after, start-mono, last-start}
 use Rattle.alloc.proofs.Filled.{filled-in, fills-moved, fills-join}
-use Rattle.alloc.proofs.steps_by_bin.Statement.{statement}
-use Rattle.alloc.proofs.steps_by_bin.Tie as tie
+use Rattle.alloc.proofs.by_bin.Statement.{statement}
+use Rattle.alloc.proofs.by_bin.Tie as tie
 
-abbrev stepOf : tie.Start → ℕ → ℤ
-stepOf s bin = at (s .args .steps .now) (bandOf bin)
+abbrev limitOf : tie.Start → ℕ → ℤ
+limitOf s bin = at (s .args .thresholds .now) (bandOf bin)
 
 -- the bins below 28, and then those of each width
-module _ (c : tie.After-narrow-steps) where
-  filled-1 : Fills (pos 0) 0 (startOf 28) (stepOf (c .before .before)) (c .before .before .args .out .now) (c .narrow-steps .last .0)
+module _ (c : tie.After-narrow) where
+  filled-1 : Fills (pos 0) 0 (startOf 28) (limitOf (c .before .before)) (c .before .before .args .out .now) (c .narrow .last .0)
   filled-1 =
       let start = start-after 27 ∙ narrow 27 (lit≤ tt) .1 in
       fills-moved _ _ _ refl (sym start)
       (λ bin p q.
       let one = narrow bin (omega arith) in
-      ap (at (c .before .before .args .steps .now)) (sym (band-at bin bin (omega arith) (omega arith) (omega arith))))
-      (c .narrow-steps .ensures)
+      ap (at (c .before .before .args .thresholds .now)) (sym (band-at bin bin (omega arith) (omega arith) (omega arith))))
+      (c .narrow .ensures)
 
-filled-3 : (c : tie.After-spread) → Fills (pos 0) 0 (startOf 35) (stepOf (c .before .before .before .before .before)) (c .before .before .before .before .before .args .out .now) (c .spread .last .0)
+filled-3 : (c : tie.After-spread) → Fills (pos 0) 0 (startOf 35) (limitOf (c .before .before .before .before .before)) (c .before .before .before .before .before .args .out .now) (c .spread .last .0)
 filled-3 c = fills-join _ _ _ _ _ zero-le (start-mono 28 35 (lit≤ tt) (lit≤ tt)) (filled-1 (c .before .before .before)) (c .spread .ensures)
 
-filled-6 : (c : tie.After-spread2) → Fills (pos 0) 0 (startOf 41) (stepOf (c .before .before .before .before .before .before .before)) (c .before .before .before .before .before .before .before .args .out .now) (c .spread2 .last .0)
+filled-6 : (c : tie.After-spread2) → Fills (pos 0) 0 (startOf 41) (limitOf (c .before .before .before .before .before .before .before)) (c .before .before .before .before .before .before .before .args .out .now) (c .spread2 .last .0)
 filled-6 c = fills-join _ _ _ _ _ zero-le (start-mono 35 41 (lit≤ tt) (lit≤ tt)) (filled-3 (c .before .before)) (c .spread2 .ensures)
 
-filled-12 : (c : tie.After-spread3) → Fills (pos 0) 0 (startOf 45) (stepOf (c .before .before .before .before .before .before .before .before .before)) (c .before .before .before .before .before .before .before .before .before .args .out .now) (c .spread3 .last .0)
+filled-12 : (c : tie.After-spread3) → Fills (pos 0) 0 (startOf 45) (limitOf (c .before .before .before .before .before .before .before .before .before)) (c .before .before .before .before .before .before .before .before .before .args .out .now) (c .spread3 .last .0)
 filled-12 c = fills-join _ _ _ _ _ zero-le (start-mono 41 45 (lit≤ tt) (lit≤ tt)) (filled-6 (c .before .before)) (c .spread3 .ensures)
 
-filled-24 : (c : tie.After-spread4) → Fills (pos 0) 0 (startOf 50) (stepOf (c .before .before .before .before .before .before .before .before .before .before .before)) (c .before .before .before .before .before .before .before .before .before .before .before .args .out .now) (c .spread4 .last .0)
+filled-24 : (c : tie.After-spread4) → Fills (pos 0) 0 (startOf 50) (limitOf (c .before .before .before .before .before .before .before .before .before .before .before)) (c .before .before .before .before .before .before .before .before .before .before .before .args .out .now) (c .spread4 .last .0)
 filled-24 c = fills-join _ _ _ _ _ zero-le (start-mono 45 50 (lit≤ tt) (lit≤ tt)) (filled-12 (c .before .before)) (c .spread4 .ensures)
 
-pub steps-by-bin-spec : {M : Type 1} → statement M
-steps-by-bin-spec =
+pub by-bin-spec : {M : Type 1} → statement M
+by-bin-spec =
     tie.close
     (tie.spec
     (λ c κs. search needs)
@@ -54,7 +54,7 @@ steps-by-bin-spec =
           let b = band-of bin p in
           let one = narrow (bandOf bin) (omega arith) in
           let start = start-after 27 ∙ narrow 27 (lit≤ tt) .1 in
-          f .entries bin ∙ filled-in (stepOf s) (at (s .args .out .now)) 0 (startOf 28) bin zero-le (omega arith),
+          f .entries bin ∙ filled-in (limitOf s) (at (s .args .out .now)) 0 (startOf 28) bin zero-le (omega arith),
     ))
     (λ c κs.
     let s = c .before .before .before .before in (
@@ -95,4 +95,4 @@ steps-by-bin-spec =
     (λ c.
     let s = c .before .before .before .before .before .before .before .before .before .before .before in
     let f = filled-24 c in
-    (f .long ∙ s .pre .0, λ bin p q. f .entries bin ∙ filled-in (stepOf s) (at (s .args .out .now)) 0 (startOf 50) bin zero-le (omega (arith, last-start)))))
+    (f .long ∙ s .pre .0, λ bin p q. f .entries bin ∙ filled-in (limitOf s) (at (s .args .out .now)) 0 (startOf 50) bin zero-le (omega (arith, last-start)))))

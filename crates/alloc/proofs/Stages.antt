@@ -17,7 +17,7 @@ use Rattle.alloc.specs.Leaks.{exciteAt}
 use Rattle.alloc.specs.Steps.{bandsOf, thresholdsOf, thresholdAt, thresholdBy}
 use Rattle.alloc.specs.Band.{InBand}
 use Rattle.alloc.specs.declared.Parameters.{Parameters}
-use Rattle.alloc.proofs.Bands.{rising, in-order, start-mono, end-mono}
+use Rattle.alloc.proofs.BandEnds.{rising, in-order, start-mono, end-mono}
 use Rattle.alloc.proofs.Bounded.{band-below, level-below, threshold-below}
 use Rattle.alloc.proofs.Filled.{filled-same, everywhere}
 use Rattle.alloc.proofs.Noted.{from-same, placed-in, noted-in, noted-is, excitation-at}

@@ -1,8 +1,7 @@
--- What the code computes in the place of psd: they are the psd less a constant, or counted in steps of 32. `proofs/Shifted.antt`
--- proves that the addresses are those of the definition. No part of the definition: contracts cite it. Assumes nothing.
+-- The stages of the allocation under names of their own. No part of the definition: contracts cite it. Assumes nothing.
 use mathlib.Core.List.{List}
 use Prim.Native.Nat.{ℕ, _+_, _*_}
-use lib.IntN.{ℤ, pos, natAbs, _+ℤ_, _-ℤ_, _*ℤ_}
+use lib.IntN.{ℤ, pos, natAbs, _+ℤ_}
 use lib.ListN.{getD}
 use lib.Signed.{_≤ℤ_}
 use Rattle.signed.specs.Level.{maxZ}
@@ -26,13 +25,6 @@ Address z = (pos 0 ≤ℤ z) × (z ≤ℤ pos 63)
 -- the pointer at a bin's address
 abbrev pub bapAt : List ℤ → ℕ → ℕ
 bapAt addresses bin = getD bap (natAbs (at addresses bin)) 0
-
--- a bin's psd less that of exponent 0
-unfoldable pub relative : ℤ → ℤ
-relative exponent = pos 0 -ℤ exponent *ℤ pos 128
-
-abbrev pub relativeAt : List ℤ → ℕ → ℤ
-relativeAt exponents bin = relative (at exponents bin)
 
 -- the threshold of a band
 unfoldable pub thresholdAt : (excite here : ℤ) (knee quiet : ℕ) (delta snr floor : ℤ) → ℤ

@@ -10,7 +10,7 @@ use Rattle.alloc.specs.Fills.{within}
 use Rattle.alloc.specs.Leaks.{exciteAt}
 use Rattle.alloc.specs.Steps.{thresholdBy, bandsOf}
 use Rattle.alloc.specs.declared.Parameters.{Parameters}
-use Rattle.alloc.proofs.Bands.{in-order}
+use Rattle.alloc.proofs.BandEnds.{in-order}
 use Rattle.alloc.proofs.Filled.{everywhere, filled-in, fills-fresh}
 use Rattle.alloc.proofs.Leaks.{excite-below}
 use Rattle.alloc.proofs.Stages.{within-below, bands-are, bands-below, exciteOf, threshold-by}

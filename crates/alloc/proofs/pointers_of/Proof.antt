@@ -13,7 +13,7 @@ use Rattle.alloc.specs.Allocation.{at, psdAt, bandOf, addressOf, bapOf}
 use Rattle.alloc.specs.Steps.{Address, bapAt, thresholdsOf}
 use Rattle.alloc.specs.Band.{InBand}
 use Rattle.alloc.specs.declared.Parameters.{Parameters}
-use Rattle.alloc.proofs.Bands.{band-of, in-order}
+use Rattle.alloc.proofs.BandEnds.{band-of, in-order}
 use Rattle.alloc.proofs.Clamped.{address-small}
 use Rattle.alloc.proofs.Filled.{fills-in}
 use Rattle.alloc.proofs.Laws.{allocation-none}

@@ -11,8 +11,9 @@ use lib.IntN.{ℤ, pos, negsuc, natAbs, _+ℤ_, _-ℤ_, _*ℤ_}
 use lib.ListN.{getD}
 use lib.Signed.{mag, ltZ, _≤ℤ_}
 use Rattle.signed.specs.Level.{maxZ, eqZ}
-use Rattle.signed.specs.Bound.{Below, bounds, mag-add, mag-cond, below-is, below-u16, below-more, below-add, below-shr, below-128, below-lit, below-cond, below-fall}
-use Rattle.signed.specs.Order.{plus-mono, plus-above}
+use Rattle.signed.specs.Bound.{Below}
+use Rattle.signed.proofs.Bounds.{bounds, mag-add, mag-cond, below-is, below-u16, below-more, below-add, below-shr, below-128, below-lit, below-cond, below-fall}
+use Rattle.signed.proofs.Order.{plus-mono, plus-above}
 use Rattle.tables.specs.Tables.{logAdd}
 use Rattle.alloc.specs.Allocation.{at, psdOf, psdAt, logadd, lowcomp, bandSum, lfeLast, lowAfter, fallTo, overKnee, kept, threshold, deltaOf}
 use Rattle.alloc.specs.Sound.{Exponents}

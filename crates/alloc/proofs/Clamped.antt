@@ -9,7 +9,7 @@ use lib.IntN.{ℤ, pos, negsuc, _-ℤ_}
 use lib.Signed.{ltZ, shrZ}
 use borrow.Author.Tests.{lt-ltb, le-ltb}
 use Rattle.signed.specs.Level.{maxZ, clampZ}
-use Rattle.signed.specs.Sign.{clamp-le}
+use Rattle.signed.proofs.Sign.{clamp-le}
 use Rattle.alloc.specs.Allocation.{addressOf}
 use Rattle.alloc.specs.Steps.{Address}
 

@@ -8,7 +8,8 @@ use lib.Dec.{leb, ltb}
 use lib.IntN.{ℤ, pos, _+ℤ_}
 use lib.ListN.{getD}
 use lib.Pow.{pow-pos}
-use Rattle.signed.specs.Bound.{Below, below-cond}
+use Rattle.signed.specs.Bound.{Below}
+use Rattle.signed.proofs.Bounds.{below-cond}
 use Rattle.tables.specs.Tables.{hearing}
 use Rattle.alloc.specs.Allocation.{from, psdAt, mappedPsd, bandSum, bandOf, startOf, endOf, bandPsd, bndstrt, bndend, integratedPsd, leakBefore, excitation, maskOf, maskingCurve, deltaSum, deltaApplied, threshold, thresholds, bapOf, pointers, allocation}
 use Rattle.alloc.specs.Sound.{Bounded, Exponents}

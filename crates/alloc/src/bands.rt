@@ -133,8 +133,8 @@ fn band_level(
     requires { ⌜ (now adds ≡ logAdd) × (now ends ≡ bandEnd) × Exponents (now exponents) × (0 < band) × (band < 50) × (startOf band < end) × (start < endOf band) × (start < end) × (end ≤ 253) ⌝ }
     ensures { λ r. ⌜ r ≡ bandPsd (psdAt (now (exponents .entry))) start end band ⌝ }
 {
-    let first = signed::most(start, wide(ends[band - 1]));
-    let last = signed::least(end, wide(ends[band]));
+    let first = naturals::most(start, wide(ends[band - 1]));
+    let last = naturals::least(end, wide(ends[band]));
     sum_levels(adds, exponents, first, last)
 }
 
@@ -170,7 +170,7 @@ pub fn band_levels(
     requires { ⌜ (length (now out) ≡ 50) × (now ends ≡ bandEnd) × Exponents (now exponents) × InBand start first × InBand (end - 1) (last - 1) × (0 < last) × (start < end) × (end ≤ 253) ⌝ }
     ensures { λ _. ⌜ Fills (pos 0) first last (bandPsd (psdAt (now (exponents .entry))) start end) (now (out .entry)) (now (out .exit)) ⌝ }
 {
-    let split = signed::least(last, signed::most(first, 28));
+    let split = naturals::least(last, naturals::most(first, 28));
     narrow_levels(&mut *out, exponents, first, split);
     if last <= split {
         return;

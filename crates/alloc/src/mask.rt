@@ -67,7 +67,7 @@ pub fn deltas(segments: &[u8; 24], count: usize) -> [i32; 50]
         add_delta(
             &mut out,
             first,
-            signed::least(last, 50),
+            naturals::least(last, 50),
             delta_of(segments[n * 3 + 2]),
         );
         from = last;

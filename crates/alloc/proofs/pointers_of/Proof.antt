@@ -7,7 +7,8 @@ use borrow.Author.Needs.{needs}
 use lib.IntN.{ℤ, pos, natAbs}
 use lib.ListN.{getD}
 use lib.Seq.{sets}
-use Rattle.signed.specs.Bound.{Below, below-is}
+use Rattle.signed.specs.Bound.{Below}
+use Rattle.signed.proofs.Bounds.{below-is}
 use Rattle.tables.specs.Tables.{bap}
 use Rattle.alloc.specs.Allocation.{at, psdAt, bandOf, addressOf, bapOf}
 use Rattle.alloc.specs.Steps.{Address, bapAt, thresholdsOf}

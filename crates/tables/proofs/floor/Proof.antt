@@ -5,7 +5,7 @@ use lib.IntN.{ℤ, pos}
 use lib.ListN.{getD, List·getD-eq-default}
 use mir.Syntax.{w32}
 use mir.Val.{toZ, ofZ}
-use Rattle.signed.specs.Bound.{back-32, below-is, below-lit, below-more}
+use Rattle.signed.proofs.Bounds.{back-32, below-is, below-lit, below-more}
 use Rattle.tables.specs.Tables.{floors, floor}
 use Rattle.tables.proofs.Rules.{near-at}
 use Rattle.tables.proofs.floor.Statement.{statement}

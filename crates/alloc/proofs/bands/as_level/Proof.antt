@@ -1,7 +1,7 @@
 -- `alloc::bands::as_level` meets its contract: a byte is below 256. Assumes nothing.
 use native.Mathlib.Omega.{arith}
 use borrow.Author.Needs.{needs}
-use Rattle.signed.specs.Bound.{cast-32, below-is}
+use Rattle.signed.proofs.Bounds.{cast-32, below-is}
 use Rattle.alloc.proofs.bands.as_level.Statement.{statement}
 use Rattle.alloc.proofs.bands.as_level.Tie as tie
 

@@ -3,7 +3,7 @@ use mathlib.Core.Path.{_≡_, _∙_, ap₂}
 use Prim.Native.Nat.{ℕ, _-_, min, max}
 use native.Mathlib.Omega.{arith}
 use borrow.Author.Needs.{needs}
-use Rattle.signed.specs.Bound.{back-32}
+use Rattle.signed.proofs.Bounds.{back-32}
 use Rattle.alloc.specs.Allocation.{psdAt, startOf, endOf, bandSum, bandPsd}
 use Rattle.alloc.proofs.BandEnds.{rising, end-at, start-at}
 use Rattle.alloc.proofs.bands.band_level.Statement.{statement}

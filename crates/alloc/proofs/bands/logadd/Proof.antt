@@ -10,7 +10,7 @@ use lib.Signed.{nonNeg}
 use mir.Syntax.{w32}
 use mir.Val.{toZ, ofZ}
 use mir.ValLaws.{toZ-ofZ}
-use Rattle.signed.specs.Bound.{bounds, levels, back-32, below-read}
+use Rattle.signed.proofs.Bounds.{bounds, levels, back-32, below-read}
 use Rattle.alloc.proofs.Sum.{near, far, larger-first, larger-second, near-test, far-test, below-test, near-below-test, far-below-test, opposite}
 use Rattle.alloc.proofs.bands.logadd.Statement.{statement}
 use Rattle.alloc.proofs.bands.logadd.Tie as tie

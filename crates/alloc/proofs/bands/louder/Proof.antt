@@ -11,7 +11,7 @@ use lib.Signed.{nonNeg}
 use mir.Syntax.{w32, w64}
 use mir.Val.{toZ, ofZ, Fits}
 use mir.ValLaws.{toZ-ofZ}
-use Rattle.signed.specs.Bound.{bounds, levels}
+use Rattle.signed.proofs.Bounds.{bounds, levels}
 use Rattle.tables.specs.Tables.{logAdd}
 use Rattle.alloc.proofs.bands.louder.Statement.{statement}
 use Rattle.alloc.proofs.bands.louder.Tie as tie

@@ -6,7 +6,7 @@ use borrow.Author.Needs.{needs}
 use lib.IntN.{pos}
 use mir.Syntax.{w32}
 use mir.Val.{toZ, ofZ}
-use Rattle.signed.specs.Bound.{back-16, back-32}
+use Rattle.signed.proofs.Bounds.{back-16, back-32}
 use Rattle.alloc.specs.Allocation.{psdOf, psdAt}
 use Rattle.alloc.specs.Fills.{Fills}
 use Rattle.alloc.proofs.Filled.{fills-none, fills-set}

@@ -4,7 +4,7 @@ use borrow.Author.Needs.{needs}
 use mir.Syntax.{w32}
 use mir.Val.{toZ, ofZ}
 use mir.ValLaws.{toZ-ofZ}
-use Rattle.signed.specs.Bound.{back-16, back-32, below-is, below-more, below-read}
+use Rattle.signed.proofs.Bounds.{back-16, back-32, below-is, below-more, below-read}
 use Rattle.alloc.specs.Allocation.{psdOf, psdAt}
 use Rattle.alloc.proofs.Bounded.{level-below}
 use Rattle.alloc.proofs.bands.plus.Statement.{statement}

@@ -8,7 +8,8 @@ use lib.IntN.{ℤ}
 use mir.Syntax.{w32}
 use mir.Val.{toZ, ofZ}
 use mir.ValLaws.{toZ-ofZ}
-use Rattle.signed.specs.Bound.{Below, back-32, below-is, below-more, below-read}
+use Rattle.signed.specs.Bound.{Below}
+use Rattle.signed.proofs.Bounds.{back-32, below-is, below-more, below-read}
 use Rattle.alloc.specs.Allocation.{logadd, psdAt}
 use Rattle.alloc.proofs.Bounded.{logadd-below, level-below}
 use Rattle.alloc.proofs.bands.plus_three.Statement.{statement}

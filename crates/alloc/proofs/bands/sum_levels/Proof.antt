@@ -8,7 +8,8 @@ use borrow.Author.Needs.{needs}
 use lib.IntN.{ℤ}
 use mir.Syntax.{w32}
 use mir.Val.{toZ, ofZ}
-use Rattle.signed.specs.Bound.{Below, back-16, back-32, below-is, below-more}
+use Rattle.signed.specs.Bound.{Below}
+use Rattle.signed.proofs.Bounds.{back-16, back-32, below-is, below-more}
 use Rattle.alloc.specs.Allocation.{psdOf, psdAt, logadd, bandSum}
 use Rattle.alloc.proofs.Bounded.{band-below, level-below}
 use Rattle.alloc.proofs.bands.sum_levels.Statement.{statement}

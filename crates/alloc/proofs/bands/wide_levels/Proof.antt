@@ -4,7 +4,7 @@ use Prim.Native.Nat.{ℕ, _-_, _≤_, _<_}
 use native.Mathlib.Omega.{arith}
 use borrow.Author.Needs.{needs}
 use lib.IntN.{pos}
-use Rattle.signed.specs.Bound.{back-32}
+use Rattle.signed.proofs.Bounds.{back-32}
 use Rattle.tables.specs.Tables.{logAdd}
 use Rattle.alloc.specs.Allocation.{psdAt, startOf, endOf, bandPsd}
 use Rattle.alloc.specs.Fills.{Fills}

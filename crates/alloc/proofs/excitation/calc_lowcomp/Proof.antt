@@ -8,8 +8,8 @@ use mir.Syntax.{w32}
 use mir.Val.{ofZ, toZ}
 use mir.ValLaws.{toZ-ofZ}
 use Rattle.signed.specs.Level.{eqZ, maxZ}
-use Rattle.signed.specs.Bound.{bounds, levels}
-use Rattle.signed.specs.Equal.{same-bits, eqZ-yes, eqZ-no}
+use Rattle.signed.proofs.Bounds.{bounds, levels}
+use Rattle.signed.proofs.Equal.{same-bits, eqZ-yes, eqZ-no}
 use Rattle.alloc.specs.Allocation.{lowcomp}
 use Rattle.alloc.proofs.excitation.calc_lowcomp.Statement.{statement}
 use Rattle.alloc.proofs.excitation.calc_lowcomp.Tie as tie

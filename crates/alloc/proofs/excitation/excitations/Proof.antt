@@ -7,7 +7,8 @@ use borrow.Author.Needs.{needs}
 use lib.IntN.{ℤ, pos}
 use mir.Syntax.{w32}
 use mir.Val.{toZ, ofZ}
-use Rattle.signed.specs.Bound.{Below, back-32, below-more}
+use Rattle.signed.specs.Bound.{Below}
+use Rattle.signed.proofs.Bounds.{back-32, below-more}
 use Rattle.alloc.specs.Allocation.{at}
 use Rattle.alloc.specs.Sound.{Bounded}
 use Rattle.alloc.specs.Fills.{Fills}

@@ -7,7 +7,8 @@ use mir.Syntax.{w32}
 use mir.Val.{toZ, ofZ}
 use mir.ValLaws.{toZ-ofZ}
 use Rattle.signed.specs.Level.{maxZ}
-use Rattle.signed.specs.Bound.{Below, bounds, levels, fits-32, cast-32, back-32, below-u16, below-more, below-sub, below-read}
+use Rattle.signed.specs.Bound.{Below}
+use Rattle.signed.proofs.Bounds.{bounds, levels, fits-32, cast-32, back-32, below-u16, below-more, below-sub, below-read}
 use Rattle.alloc.specs.Allocation.{fallTo, fallBy}
 use Rattle.alloc.proofs.Bounded.{fall-below}
 use Rattle.alloc.proofs.excitation.fall_leak.Statement.{statement}

@@ -2,7 +2,7 @@
 use mathlib.Core.Path.{_∙_}
 use native.Mathlib.Omega.{arith}
 use borrow.Author.Needs.{needs}
-use Rattle.signed.specs.Bound.{bounds, levels, back-32, cast-32, below-u16}
+use Rattle.signed.proofs.Bounds.{bounds, levels, back-32, cast-32, below-u16}
 use Rattle.alloc.specs.Allocation.{fallTo}
 use Rattle.alloc.proofs.excitation.fall_to.Statement.{statement}
 use Rattle.alloc.proofs.excitation.fall_to.Tie as tie

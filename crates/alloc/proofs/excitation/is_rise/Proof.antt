@@ -6,7 +6,7 @@ use borrow.Author.Needs.{needs}
 use borrow.Author.Tests.{lt-leb, le-leb}
 use lib.IntN.{pos}
 use lib.ListN.{getD}
-use Rattle.signed.specs.Bound.{back-32}
+use Rattle.signed.proofs.Bounds.{back-32}
 use Rattle.alloc.specs.Allocation.{lfeLast, rises}
 use Rattle.alloc.proofs.excitation.is_rise.Statement.{statement}
 use Rattle.alloc.proofs.excitation.is_rise.Tie as tie

@@ -1,5 +1,5 @@
 -- `alloc::excitation::leak_before` meets its contract: the leaks are read back as they are. Assumes nothing.
-use Rattle.signed.specs.Bound.{below-lit, below-more, back-32}
+use Rattle.signed.proofs.Bounds.{below-lit, below-more, back-32}
 use Rattle.alloc.proofs.excitation.leak_before.Statement.{statement}
 use Rattle.alloc.proofs.excitation.leak_before.Tie as tie
 

@@ -10,7 +10,8 @@ use borrow.Author.Tests.{lt-ltb}
 use lib.IntN.{ℤ}
 use mir.Syntax.{w32}
 use mir.Val.{toZ, ofZ}
-use Rattle.signed.specs.Bound.{Below, levels, back-32, below-read, below-is, below-lit, below-more}
+use Rattle.signed.specs.Bound.{Below}
+use Rattle.signed.proofs.Bounds.{levels, back-32, below-read, below-is, below-lit, below-more}
 use Rattle.alloc.specs.Allocation.{at, lowAfter, startsAnew, fallLeak, leakStep}
 use Rattle.tables.proofs.Rules.{both-left}
 use Rattle.alloc.proofs.Bounded.{low-below}

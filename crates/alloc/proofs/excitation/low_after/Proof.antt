@@ -8,7 +8,7 @@ use lib.IntN.{pos}
 use lib.ListN.{getD}
 use mir.Syntax.{w32}
 use mir.ValLaws.{toZ-ofZ}
-use Rattle.signed.specs.Bound.{back-32, below-read, below-more}
+use Rattle.signed.proofs.Bounds.{back-32, below-read, below-more}
 use Rattle.alloc.specs.Allocation.{lfeLast, lowAfter}
 use Rattle.alloc.proofs.excitation.low_after.Statement.{statement}
 use Rattle.alloc.proofs.excitation.low_after.Tie as tie

@@ -1,7 +1,7 @@
 -- `alloc::excitation::start_leak` meets its contract. Assumes nothing.
 use native.Mathlib.Omega.{arith}
 use borrow.Author.Needs.{needs}
-use Rattle.signed.specs.Bound.{bounds, levels, cast-32, below-u16}
+use Rattle.signed.proofs.Bounds.{bounds, levels, cast-32, below-u16}
 use Rattle.alloc.specs.Allocation.{startLeak}
 use Rattle.alloc.proofs.excitation.start_leak.Statement.{statement}
 use Rattle.alloc.proofs.excitation.start_leak.Tie as tie

@@ -8,7 +8,7 @@ use lib.ListN.{getD}
 use mir.Syntax.{w32}
 use mir.Val.{toZ, ofZ, SFits}
 use mir.ValLaws.{toZ-ofZ}
-use Rattle.signed.specs.Bound.{bounds, back-32}
+use Rattle.signed.proofs.Bounds.{bounds, back-32}
 use Rattle.alloc.specs.Allocation.{at}
 use Rattle.alloc.specs.Fills.{Fills}
 use Rattle.alloc.proofs.Filled.{fills-none, fills-set, fills-rest, fills-ended}

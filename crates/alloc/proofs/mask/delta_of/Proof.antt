@@ -7,8 +7,9 @@ use borrow.Author.Tests.{le-leb, lt-leb}
 use lib.IntN.{ℤ, pos, _-ℤ_, _*ℤ_}
 use mir.Syntax.{w32}
 use mir.Val.{toZ, ofZ}
-use Rattle.signed.specs.Bound.{Below, bounds, cast-32, below-lit, below-u16, below-is}
-use Rattle.signed.specs.Shift.{shl-by}
+use Rattle.signed.specs.Bound.{Below}
+use Rattle.signed.proofs.Bounds.{bounds, cast-32, below-lit, below-u16, below-is}
+use Rattle.signed.proofs.Shift.{shl-by}
 use Rattle.alloc.specs.Allocation.{deltaOf}
 use Rattle.alloc.proofs.Bounded.{delta-of-below}
 use Rattle.alloc.proofs.mask.delta_of.Statement.{statement}

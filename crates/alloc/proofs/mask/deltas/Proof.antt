@@ -16,7 +16,7 @@ use lib.ListN.{length, getD}
 use lib.Signed.{mag}
 use mir.Syntax.{w32}
 use mir.Val.{toZ, ofZ}
-use Rattle.signed.specs.Bound.{back-32, below-read, mag-add}
+use Rattle.signed.proofs.Bounds.{back-32, below-read, mag-add}
 use Rattle.alloc.specs.Allocation.{at, passed, deltaOf, deltaIn, deltaSum}
 use Rattle.alloc.proofs.Filled.{cleared}
 use Rattle.alloc.proofs.mask.deltas.Statement.{statement}

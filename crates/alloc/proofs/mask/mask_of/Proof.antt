@@ -4,7 +4,7 @@ use native.Mathlib.Omega.{arith}
 use borrow.Author.Needs.{needs}
 use mir.Syntax.{w32}
 use mir.ValLaws.{toZ-ofZ}
-use Rattle.signed.specs.Bound.{back-32, cast-32, below-read}
+use Rattle.signed.proofs.Bounds.{back-32, cast-32, below-read}
 use Rattle.alloc.proofs.mask.mask_of.Statement.{statement}
 use Rattle.alloc.proofs.mask.mask_of.Tie as tie
 

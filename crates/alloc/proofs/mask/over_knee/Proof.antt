@@ -5,7 +5,7 @@ use lib.IntN.{pos, _+ℤ_, _-ℤ_}
 use lib.Signed.{shrZ}
 use mir.Syntax.{w32}
 use mir.ValLaws.{toZ-ofZ}
-use Rattle.signed.specs.Bound.{bounds, cast-32, below-u16, below-shr}
+use Rattle.signed.proofs.Bounds.{bounds, cast-32, below-u16, below-shr}
 use Rattle.alloc.specs.Allocation.{overKnee}
 use Rattle.alloc.proofs.mask.over_knee.Statement.{statement}
 use Rattle.alloc.proofs.mask.over_knee.Tie as tie

@@ -6,7 +6,8 @@ use lib.Signed.{shrZ}
 use mir.Syntax.{w32}
 use mir.Val.{toZ, ofZ}
 use mir.ValLaws.{toZ-ofZ}
-use Rattle.signed.specs.Bound.{Below, back-32, below-down, below-more, below-sub, fits-32}
+use Rattle.signed.specs.Bound.{Below}
+use Rattle.signed.proofs.Bounds.{back-32, below-down, below-more, below-sub, fits-32}
 use Rattle.signed.specs.Level.{maxZ}
 use Rattle.alloc.specs.Allocation.{addressOf}
 use Rattle.alloc.proofs.Clamped.{clamped}

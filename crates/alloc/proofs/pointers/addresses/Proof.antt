@@ -7,7 +7,7 @@ use lib.IntN.{ℤ, pos}
 use lib.ListN.{getD}
 use mir.Syntax.{w32}
 use mir.Val.{toZ, ofZ}
-use Rattle.signed.specs.Bound.{back-16, back-32}
+use Rattle.signed.proofs.Bounds.{back-16, back-32}
 use Rattle.alloc.specs.Allocation.{at, psdOf, psdAt, addressOf}
 use Rattle.alloc.specs.Fills.{Fills}
 use Rattle.alloc.proofs.Bounded.{level-below}

@@ -4,7 +4,7 @@ use Prim.Native.Nat.{_-_, _≤_}
 use native.Mathlib.Omega.{arith}
 use borrow.Author.Needs.{needs}
 use lib.IntN.{pos}
-use Rattle.signed.specs.Bound.{back-32}
+use Rattle.signed.proofs.Bounds.{back-32}
 use Rattle.alloc.specs.Allocation.{at}
 use Rattle.alloc.specs.Fills.{Fills}
 use Rattle.alloc.proofs.Filled.{fills-none, fills-set}

@@ -9,7 +9,7 @@ use lib.ListN.{getD}
 use lib.Signed.{yes-nonNeg}
 use mir.Syntax.{w32}
 use mir.Val.{toZ, ofZ}
-use Rattle.signed.specs.Bound.{back-32}
+use Rattle.signed.proofs.Bounds.{back-32}
 use Rattle.alloc.specs.Allocation.{at}
 use Rattle.alloc.specs.Fills.{Fills}
 use Rattle.alloc.specs.Steps.{Address, bapAt}

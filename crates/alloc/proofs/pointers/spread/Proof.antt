@@ -6,7 +6,7 @@ use native.Mathlib.Nat.{le-refl}
 use native.Mathlib.Omega.{arith}
 use borrow.Author.Needs.{needs}
 use lib.IntN.{ℤ, pos}
-use Rattle.signed.specs.Bound.{back-32}
+use Rattle.signed.proofs.Bounds.{back-32}
 use Rattle.alloc.specs.Allocation.{at, bandOf, startOf}
 use Rattle.alloc.specs.Fills.{Fills}
 use Rattle.alloc.proofs.BandEnds.{start-at, start-after, start-mono, last-start, band-at}

@@ -8,9 +8,10 @@ use mir.Syntax.{w32}
 use mir.Val.{SFits, toZ, ofZ}
 use mir.ValLaws.{toZ-ofZ}
 use Rattle.signed.specs.Level.{maxZ}
-use Rattle.signed.specs.Bound.{Below, bounds, levels, fits-32, below-add, below-more}
-use Rattle.signed.specs.Shift.{masked}
-use Rattle.signed.specs.Sign.{max-zero}
+use Rattle.signed.specs.Bound.{Below}
+use Rattle.signed.proofs.Bounds.{bounds, levels, fits-32, below-add, below-more}
+use Rattle.signed.proofs.Shift.{masked}
+use Rattle.signed.proofs.Sign.{max-zero}
 use Rattle.alloc.specs.Allocation.{kept, threshold}
 use Rattle.alloc.proofs.pointers.threshold.Statement.{statement}
 use Rattle.alloc.proofs.pointers.threshold.Tie as tie

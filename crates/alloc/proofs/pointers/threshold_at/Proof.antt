@@ -7,7 +7,8 @@ use mir.Syntax.{w32}
 use mir.Val.{toZ, ofZ}
 use mir.ValLaws.{toZ-ofZ}
 use Rattle.signed.specs.Level.{maxZ}
-use Rattle.signed.specs.Bound.{Below, back-32, fits-32, below-is, below-more, below-max, below-read, below-add}
+use Rattle.signed.specs.Bound.{Below}
+use Rattle.signed.proofs.Bounds.{back-32, fits-32, below-is, below-more, below-max, below-read, below-add}
 use Rattle.alloc.specs.Allocation.{overKnee, threshold}
 use Rattle.alloc.specs.Steps.{thresholdAt}
 use Rattle.alloc.proofs.Bounded.{knee-below}

@@ -8,7 +8,7 @@ use lib.ListN.{length}
 use mir.Syntax.{w32}
 use mir.Val.{toZ}
 use mir.ValLaws.{toZ-ofZ}
-use Rattle.signed.specs.Bound.{back-32, below-read}
+use Rattle.signed.proofs.Bounds.{back-32, below-read}
 use Rattle.tables.proofs.Rule.{hearing-at-most}
 use Rattle.alloc.specs.Allocation.{at}
 use Rattle.alloc.specs.Fills.{Fills}

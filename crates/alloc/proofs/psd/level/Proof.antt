@@ -5,8 +5,8 @@ use lib.IntN.{pos, _*ℤ_}
 use mir.Syntax.{w16, w32}
 use mir.Val.{toZ, ofZ}
 use mir.ValLaws.{toZ-ofZ}
-use Rattle.signed.specs.Bound.{bounds, levels, below-i16, below-128}
-use Rattle.signed.specs.Shift.{shl-by}
+use Rattle.signed.proofs.Bounds.{bounds, levels, below-i16, below-128}
+use Rattle.signed.proofs.Shift.{shl-by}
 use Rattle.alloc.specs.Allocation.{psdOf}
 use Rattle.alloc.proofs.psd.level.Statement.{statement}
 use Rattle.alloc.proofs.psd.level.Tie as tie

@@ -4,7 +4,7 @@ use alloc::Gains;
 use alloc::Parameters;
 ghost use mathlib.Core.Bool.{cond, _&&_};
 ghost use mathlib.Core.Path.{_≡_};
-ghost use Rattle.alloc_c.specs.Accepted.{startFits, rangeFits, codesFit, isExponent, exponentsFit, accepted, parametersOf, answer};
+ghost use Rattle.alloc_probe.specs.Accepted.{startFits, rangeFits, codesFit, isExponent, exponentsFit, accepted, parametersOf, answer};
 
 // A slot starts at bin 0, and the coupling channel at bin 37 or later.
 fn start_fits(start: usize) -> bool

@@ -1,4 +1,4 @@
--- `alloc_c::exponents_fit` meets its contract. The loop's invariant: what was found so far and the exponents from `bin` on decide together.
+-- `alloc_probe::exponents_fit` meets its contract. The loop's invariant: what was found so far and the exponents from `bin` on decide together.
 -- Assumes nothing.
 use mathlib.Core.Path.{_≡_, _∙_, refl, sym, ap}
 use mathlib.Core.Bool.{Bool, true, false, _&&_}
@@ -9,11 +9,11 @@ use borrow.Author.Needs.{needs}
 use lib.IntN.{ℤ}
 use lib.ListN.{length, drop, drop-of-length-le}
 use lib.Seq.{drop-cons}
-use Rattle.signed.specs.Bound.{back-16}
+use Rattle.signed.proofs.Bounds.{back-16}
 use Rattle.alloc.specs.Allocation.{at}
-use Rattle.alloc_c.specs.Accepted.{isExponent, exponentsFit}
-use Rattle.alloc_c.proofs.exponents_fit.Statement.{statement}
-use Rattle.alloc_c.proofs.exponents_fit.Tie as tie
+use Rattle.alloc_probe.specs.Accepted.{isExponent, exponentsFit}
+use Rattle.alloc_probe.proofs.exponents_fit.Statement.{statement}
+use Rattle.alloc_probe.proofs.exponents_fit.Tie as tie
 
 abbrev Inv-loop : tie.InvT-loop
 Inv-loop exponents fit₀ bin₀ fit bin = (bin ≤ 256) × (exponentsFit exponents ≡ (fit && exponentsFit (drop bin exponents)))

@@ -1,4 +1,4 @@
--- `alloc_c::ferrysprig_allocate` meets its contract: what the tests tell is what `alloc::allocate` asks for. Assumes nothing.
+-- `alloc_probe::ferrysprig_allocate` meets its contract: what the tests tell is what `alloc::allocate` asks for. Assumes nothing.
 use mathlib.Core.Path.{_≡_, _∙_, refl, sym, subst}
 use mathlib.Core.Bool.{Bool, true, false, _&&_}
 use mathlib.Core.List.{List, [], _∷_}
@@ -9,12 +9,12 @@ use borrow.Author.Tests.{not-true, not-false, leb-true}
 use lib.Dec.{T, leb}
 use lib.IntN.{ℤ, pos}
 use lib.Signed.{leZ}
-use Rattle.signed.specs.Bound.{back-32, cast-32, below-more, below-u16, below-cast, below-is, below-read}
+use Rattle.signed.proofs.Bounds.{back-32, cast-32, below-more, below-u16, below-cast, below-is, below-read}
 use Rattle.alloc.specs.Sound.{Exponents}
 use Rattle.alloc.proofs.Offset.{snr-below}
-use Rattle.alloc_c.specs.Accepted.{startFits, rangeFits, codesFit, isExponent, exponentsFit, answer}
-use Rattle.alloc_c.proofs.ferrysprig_allocate.Statement.{statement}
-use Rattle.alloc_c.proofs.ferrysprig_allocate.Tie as tie
+use Rattle.alloc_probe.specs.Accepted.{startFits, rangeFits, codesFit, isExponent, exponentsFit, answer}
+use Rattle.alloc_probe.proofs.ferrysprig_allocate.Statement.{statement}
+use Rattle.alloc_probe.proofs.ferrysprig_allocate.Tie as tie
 
 -- ---- what the tests tell
 

@@ -1,9 +1,9 @@
--- `alloc_c::is_exponent` meets its contract: the tests are the definition's, on what is read back from the parameter's bits.
+-- `alloc_probe::is_exponent` meets its contract: the tests are the definition's, on what is read back from the parameter's bits.
 -- Assumes nothing.
 use mir.Syntax.{w16}
 use mir.ValLaws.{toZ-ofZ}
-use Rattle.alloc_c.proofs.is_exponent.Statement.{statement}
-use Rattle.alloc_c.proofs.is_exponent.Tie as tie
+use Rattle.alloc_probe.proofs.is_exponent.Statement.{statement}
+use Rattle.alloc_probe.proofs.is_exponent.Tie as tie
 
 pub is-exponent-spec : {M : Type 1} → statement M
 is-exponent-spec =

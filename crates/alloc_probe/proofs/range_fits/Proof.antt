@@ -1,9 +1,9 @@
--- `alloc_c::range_fits` meets its contract: its tests are the definition's. Assumes nothing.
+-- `alloc_probe::range_fits` meets its contract: its tests are the definition's. Assumes nothing.
 use mathlib.Core.Path.{sym, _∙_}
 use borrow.Author.Needs.{needs}
 use borrow.Author.Tests.{not-true, not-false}
-use Rattle.alloc_c.proofs.range_fits.Statement.{statement}
-use Rattle.alloc_c.proofs.range_fits.Tie as tie
+use Rattle.alloc_probe.proofs.range_fits.Statement.{statement}
+use Rattle.alloc_probe.proofs.range_fits.Tie as tie
 
 pub range-fits-spec : {M : Type 1} → statement M
 range-fits-spec =

@@ -1,7 +1,7 @@
--- `alloc_c::codes_fit` meets its contract: its tests are the definition's. Assumes nothing.
+-- `alloc_probe::codes_fit` meets its contract: its tests are the definition's. Assumes nothing.
 use borrow.Author.Tests.{lt-leb, le-leb}
-use Rattle.alloc_c.proofs.codes_fit.Statement.{statement}
-use Rattle.alloc_c.proofs.codes_fit.Tie as tie
+use Rattle.alloc_probe.proofs.codes_fit.Statement.{statement}
+use Rattle.alloc_probe.proofs.codes_fit.Tie as tie
 
 pub codes-fit-spec : {M : Type 1} → statement M
 codes-fit-spec =

@@ -14,7 +14,7 @@ use borrow.Author.Tests.{lt-ltb, le-ltb}
 use Rattle.tables.specs.Tables.{bandEnd}
 use Rattle.alloc.specs.Allocation.{firstAbove, bandOf, startOf, endOf, bandSum, bandPsd}
 use Rattle.alloc.specs.Band.{InBand}
-use Rattle.tables.proofs.Rules.{both-left, both-right}
+use store.Enc.{and-l, and-r}
 
 -- ---- the first entry of a list above b
 
@@ -33,8 +33,8 @@ rises x (y ∷ ys) = ltb x y && rises y ys
 
 rises-at : (x : ℕ) (ys : List ℕ) → T (rises x ys) → (k : ℕ) → k < length ys → getD (x ∷ ys) k 0 < getD ys k 0
 rises-at x [] t k h = absurd (not-suc-le-zero h)
-rises-at x (y ∷ ys) t zero h = ltb→lt x y (both-left (ltb x y) (rises y ys) t)
-rises-at x (y ∷ ys) t (suc k) h = rises-at y ys (both-right (ltb x y) (rises y ys) t) k (le-of-suc-le-suc h)
+rises-at x (y ∷ ys) t zero h = ltb→lt x y (and-l (ltb x y) (rises y ys) t)
+rises-at x (y ∷ ys) t (suc k) h = rises-at y ys (and-r (ltb x y) (rises y ys) t) k (le-of-suc-le-suc h)
 
 pub rising : (band : ℕ) → band < 50 → startOf band < endOf band
 unfolding bandEnd startOf endOf
@@ -89,10 +89,10 @@ regular i x (y ∷ ys) = eqb y (x + widthOf i) && regular (suc i) y ys
 
 regular-at : (i x : ℕ) (ys : List ℕ) → T (regular i x ys) → (k : ℕ) → k < length ys → getD ys k 0 ≡ getD (x ∷ ys) k 0 + widthOf (i + k)
 regular-at i x [] t k h = absurd (not-suc-le-zero h)
-regular-at i x (y ∷ ys) t zero h = rw add-zero (eqb→eq y (x + widthOf i) (both-left (eqb y (x + widthOf i)) (regular (suc i) y ys) t))
+regular-at i x (y ∷ ys) t zero h = rw add-zero (eqb→eq y (x + widthOf i) (and-l (eqb y (x + widthOf i)) (regular (suc i) y ys) t))
 regular-at i x (y ∷ ys) t (suc k) h =
     let next : suc i + k ≡ i + suc k = omega arith in
-    regular-at (suc i) y ys (both-right (eqb y (x + widthOf i)) (regular (suc i) y ys) t) k (le-of-suc-le-suc h) ∙ ap (λ (n : ℕ). getD (y ∷ ys) k 0 + widthOf n) next
+    regular-at (suc i) y ys (and-r (eqb y (x + widthOf i)) (regular (suc i) y ys) t) k (le-of-suc-le-suc h) ∙ ap (λ (n : ℕ). getD (y ∷ ys) k 0 + widthOf n) next
 
 pub width : (band : ℕ) → band < 50 → endOf band ≡ startOf band + widthOf band
 unfolding bandEnd startOf endOf
@@ -144,10 +144,10 @@ all-contained (suc n) = contained n && all-contained n
 
 contained-at : (n : ℕ) → T (all-contained n) → (bin : ℕ) → bin < n → T (contained bin)
 contained-at zero t bin h = absurd (not-suc-le-zero h)
-contained-at (suc n) t bin h = by (contained-at n (both-right (contained n) (all-contained n) t) bin) (ℕ-discrete bin n)
+contained-at (suc n) t bin h = by (contained-at n (and-r (contained n) (all-contained n) t) bin) (ℕ-discrete bin n)
   where
     by : (bin < n → T (contained bin)) → Dec (bin ≡ n) → T (contained bin)
-    by before (yes same) = rw same (both-left (contained n) (all-contained n) t)
+    by before (yes same) = rw same (and-l (contained n) (all-contained n) t)
     by before (no other) = before (omega arith)
 
 test : T (all-contained 253)
@@ -157,11 +157,11 @@ test = tt
 pub ranged-in : (bin : ℕ) → bin < 253 → InBand bin (ranged bin)
 ranged-in bin h =
     let t = contained-at 253 test bin h in
-    let rest = both-right (ltb (ranged bin) 50) (leb (startOf (ranged bin)) bin && ltb bin (endOf (ranged bin))) t in
+    let rest = and-r (ltb (ranged bin) 50) (leb (startOf (ranged bin)) bin && ltb bin (endOf (ranged bin))) t in
     in-band bin (ranged bin)
-    (ltb→lt (ranged bin) 50 (both-left (ltb (ranged bin) 50) (leb (startOf (ranged bin)) bin && ltb bin (endOf (ranged bin))) t))
-    (leb→le (startOf (ranged bin)) bin (both-left (leb (startOf (ranged bin)) bin) (ltb bin (endOf (ranged bin))) rest))
-    (ltb→lt bin (endOf (ranged bin)) (both-right (leb (startOf (ranged bin)) bin) (ltb bin (endOf (ranged bin))) rest))
+    (ltb→lt (ranged bin) 50 (and-l (ltb (ranged bin) 50) (leb (startOf (ranged bin)) bin && ltb bin (endOf (ranged bin))) t))
+    (leb→le (startOf (ranged bin)) bin (and-l (leb (startOf (ranged bin)) bin) (ltb bin (endOf (ranged bin))) rest))
+    (ltb→lt bin (endOf (ranged bin)) (and-r (leb (startOf (ranged bin)) bin) (ltb bin (endOf (ranged bin))) rest))
 
 -- so every bin has its band
 pub band-of : (bin : ℕ) → bin < 253 → InBand bin (bandOf bin)

@@ -1,7 +1,7 @@
 -- The two tests of an address clamp it, as the definition does. Assumes nothing.
 use mathlib.Core.Bool.{cond}
 use mathlib.Core.Path.{_≡_, refl, ap}
-use Prim.Native.Nat.{ℕ, _<_, min, zero-le}
+use Prim.Native.Nat.{_<_, min, zero-le}
 use native.Mathlib.Decide.{decLt}
 use native.Mathlib.Omega.{arith}
 use lib.Dec.{ltb, le→leb}
@@ -11,7 +11,7 @@ use borrow.Author.Tests.{lt-ltb, le-ltb}
 use Rattle.signed.specs.Level.{maxZ, clampZ}
 use Rattle.signed.proofs.Sign.{clamp-le}
 use Rattle.alloc.specs.Allocation.{addressOf}
-use Rattle.alloc.specs.Steps.{Address}
+use Rattle.alloc.specs.Stages.{Address}
 
 -- the larger of 0 and a number, and the smaller of that and 63
 pub clamped : (z : ℤ) → cond (ltZ (pos 63) (maxZ z (pos 0))) (pos 63) (maxZ z (pos 0)) ≡ pos (clampZ z 63)

@@ -1,24 +1,22 @@
 -- The stages of the code are those of the definition, and how far each is from 0. Assumes nothing.
 use mathlib.Core.Bool.{_&&_}
-use mathlib.Core.Path.{_≡_, _∙_, refl, sym, ap, ap₂}
+use mathlib.Core.Path.{_≡_, _∙_, sym, ap, ap₂}
 use mathlib.Core.List.{List}
-use Prim.Native.Nat.{ℕ, zero, suc, _+_, _-_, _*_, _≤_, _<_, _^_, min, max}
+use Prim.Native.Nat.{ℕ, zero, suc, _+_, _-_, _≤_, _<_, min, max}
 use native.Mathlib.Omega.{arith}
 use lib.Dec.{leb, ltb}
 use lib.IntN.{ℤ, pos, _+ℤ_}
-use lib.ListN.{getD}
 use lib.Pow.{pow-pos}
 use Rattle.signed.specs.Bound.{Below}
 use Rattle.signed.proofs.Bounds.{below-cond}
-use Rattle.tables.specs.Tables.{hearing}
 use Rattle.alloc.specs.Allocation.{from, psdAt, mappedPsd, bandSum, bandOf, startOf, endOf, bandPsd, bndstrt, bndend, integratedPsd, leakBefore, excitation, maskOf, maskingCurve, deltaSum, deltaApplied, threshold, thresholds, bapOf, pointers, allocation}
-use Rattle.alloc.specs.Sound.{Bounded, Exponents}
+use Rattle.alloc.specs.Sound.{Exponents}
 use Rattle.alloc.specs.Fills.{within}
 use Rattle.alloc.specs.Leaks.{exciteAt}
-use Rattle.alloc.specs.Steps.{bandsOf, thresholdsOf, thresholdAt, thresholdBy}
+use Rattle.alloc.specs.Stages.{bandsOf, thresholdsOf, thresholdAt, thresholdBy}
 use Rattle.alloc.specs.Band.{InBand}
 use Rattle.alloc.specs.declared.Parameters.{Parameters}
-use Rattle.alloc.proofs.BandEnds.{rising, in-order, start-mono, end-mono}
+use Rattle.alloc.proofs.BandEnds.{rising, start-mono, end-mono}
 use Rattle.alloc.proofs.Bounded.{band-below, level-below, threshold-below}
 use Rattle.alloc.proofs.Filled.{filled-same, everywhere}
 use Rattle.alloc.proofs.Noted.{from-same, placed-in, noted-in, noted-is, excitation-at}

@@ -1,7 +1,6 @@
 -- The sum of two levels, by their difference. Assumes nothing.
 use mathlib.Core.Path.{_≡_, refl, sym, ap, ap₂, _∙_, subst}
 use mathlib.Core.Bool.{Bool, true, false, not, cond, _&&_}
-use mathlib.Core.List.{List}
 use Prim.Native.Nat.{ℕ, zero, suc, _+_, _/_, _≤_, _<_, min, zero-le}
 use native.Mathlib.Omega.{arith}
 use lib.Dec.{T, leb, ltb, ltb→lt, leb·suc-suc}
@@ -12,7 +11,7 @@ use borrow.Author.Tests.{lt-ltb, le-ltb, le-leb, ltb-true, ltb-false}
 use Rattle.signed.specs.Level.{maxZ}
 use Rattle.tables.specs.Tables.{logAdd}
 use Rattle.tables.proofs.Rule.{log-add-rule}
-use Rattle.tables.proofs.Rules.{both-right}
+use store.Enc.{and-r}
 use Rattle.alloc.specs.Allocation.{logadd}
 
 -- ---- the larger of two, by the sign of their difference
@@ -60,7 +59,7 @@ far a b m e h =
 -- ---- what the tests on a difference tell
 
 pub near-test : (z : ℤ) → (leZ (pos 0) z && ltZ z (pos 512)) ≡ true → T (nonNeg z) × (natAbs z < 512)
-near-test (pos n) e = (tt, ltb→lt n 512 (both-right (leb 0 n) (ltb n 512) (subst T (sym e) tt)))
+near-test (pos n) e = (tt, ltb→lt n 512 (and-r (leb 0 n) (ltb n 512) (subst T (sym e) tt)))
 near-test (negsuc n) e = absurd (subst T (sym e) tt)
 
 pub far-test : (z : ℤ) → (leZ (pos 0) z && ltZ z (pos 512)) ≡ false → leZ (pos 0) z ≡ true → T (nonNeg z) × (512 ≤ natAbs z)

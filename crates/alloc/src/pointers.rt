@@ -14,7 +14,7 @@ ghost use Rattle.tables.specs.Tables.{bandEnd, hearing, bap};
 ghost use Rattle.alloc.specs.Allocation.{at, psdAt, bandOf, startOf, endOf, threshold, addressOf};
 ghost use Rattle.alloc.specs.Sound.{Exponents};
 ghost use Rattle.alloc.specs.Fills.{within, Fills};
-ghost use Rattle.alloc.specs.Steps.{Address, bapAt, thresholdAt, thresholdBy};
+ghost use Rattle.alloc.specs.Stages.{Address, bapAt, thresholdAt, thresholdBy};
 
 // The level above which the bins of a band get bits.
 fn threshold(mask: i32, snroffset: i32, floor: i32) -> i32

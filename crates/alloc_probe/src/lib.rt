@@ -10,13 +10,13 @@ ghost use Rattle.alloc_probe.specs.Accepted.{startFits, rangeFits, codes
 fn start_fits(start: usize) -> bool
     ensures { λ r. ⌜ r ≡ startFits start ⌝ }
 {
-    if start == 0 { true } else { 37 <= start }
+    start == 0 || 37 <= start
 }
 
 fn range_fits(start: usize, end: usize) -> bool
     ensures { λ r. ⌜ r ≡ rangeFits start end ⌝ }
 {
-    if start_fits(start) { end <= 253 } else { false }
+    start_fits(start) && end <= 253
 }
 
 fn codes_fit(fscod: usize, csnroffst: u8, fsnroffst: u8, count: usize) -> bool
@@ -37,13 +37,7 @@ fn codes_fit(fscod: usize, csnroffst: u8, fsnroffst: u8, count: usize) -> bool
 fn is_exponent(e: i16) -> bool
     ensures { λ r. ⌜ r ≡ isExponent e ⌝ }
 {
-    if 0 <= e { e <= 24 } else { false }
-}
-
-fn both(a: bool, b: bool) -> bool
-    ensures { λ r. ⌜ r ≡ (a && b) ⌝ }
-{
-    if a { b } else { false }
+    0 <= e && e <= 24
 }
 
 // Whether all 256 exponents are from 0 to 24. A frame's are, outside the range too, and so `alloc::allocate` requires it. There is no way out
@@ -54,7 +48,7 @@ fn exponents_fit(exponents: [i16; 256]) -> bool
     let mut fit = true;
     let mut bin = 0usize;
     while bin < 256 {
-        fit = both(fit, is_exponent(exponents[bin]));
+        fit = is_exponent(exponents[bin]) && fit;
         bin += 1;
     }
     fit

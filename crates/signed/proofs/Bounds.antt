@@ -15,9 +15,6 @@ use mir.ValLaws.{toZ-ofZ, toZ-pos}
 use Rattle.signed.specs.Bound.{Below}
 use Rattle.signed.specs.Level.{maxZ}
 
-pub fits-16 : {z : ℤ} → Below 15 z → SFits w16 z
-fits-16 b = record { sfits = b .below }
-
 pub fits-32 : {z : ℤ} → Below 31 z → SFits w32 z
 fits-32 b = record { sfits = b .below }
 

@@ -1,6 +1,6 @@
 -- `alloc::band_thresholds` meets its contract: stage by stage, the entries of each array are the definition's. Assumes nothing.
 use mathlib.Core.Path.{_≡_, _∙_, ap, ap₂}
-use Prim.Native.Nat.{ℕ, _+_, _-_, _≤_, _<_, _^_}
+use Prim.Native.Nat.{ℕ, _-_, _≤_, _<_, _^_}
 use native.Mathlib.Omega.{arith}
 use borrow.Author.Needs.{needs}
 use lib.IntN.{ℤ, pos}
@@ -9,7 +9,7 @@ use Rattle.signed.proofs.Bounds.{back-32, below-is, below-more, below-read}
 use Rattle.alloc.specs.Allocation.{at, psdAt, bandPsd, bndstrt, bndend, leakBefore}
 use Rattle.alloc.specs.Fills.{within}
 use Rattle.alloc.specs.Leaks.{exciteAt}
-use Rattle.alloc.specs.Steps.{thresholdBy, bandsOf}
+use Rattle.alloc.specs.Stages.{thresholdBy, bandsOf}
 use Rattle.alloc.specs.declared.Parameters.{Parameters}
 use Rattle.alloc.proofs.BandEnds.{in-order}
 use Rattle.alloc.proofs.Filled.{everywhere, filled-in, fills-fresh}

@@ -1,6 +1,5 @@
 -- `alloc::pointers_of` meets its contract: stage by stage, what each bin has is the definition's. Assumes nothing.
-use mathlib.Core.List.{List}
-use mathlib.Core.Path.{_≡_, _∙_, ap, ap₂, sym}
+use mathlib.Core.Path.{_≡_, _∙_, ap}
 use Prim.Native.Nat.{ℕ, _+_, _-_, _≤_, _<_}
 use native.Mathlib.Omega.{arith}
 use borrow.Author.Needs.{needs}
@@ -11,7 +10,7 @@ use Rattle.signed.specs.Bound.{Below}
 use Rattle.signed.proofs.Bounds.{below-is}
 use Rattle.tables.specs.Tables.{bap}
 use Rattle.alloc.specs.Allocation.{at, psdAt, bandOf, addressOf, bapOf}
-use Rattle.alloc.specs.Steps.{Address, bapAt, thresholdsOf}
+use Rattle.alloc.specs.Stages.{Address, bapAt, thresholdsOf}
 use Rattle.alloc.specs.Band.{InBand}
 use Rattle.alloc.specs.declared.Parameters.{Parameters}
 use Rattle.alloc.proofs.BandEnds.{band-of, in-order}

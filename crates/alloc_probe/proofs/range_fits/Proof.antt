@@ -1,7 +1,6 @@
 -- `alloc_probe::range_fits` meets its contract: its tests are the definition's. Assumes nothing.
-use mathlib.Core.Path.{sym, _∙_}
+use mathlib.Core.Path.{sym}
 use borrow.Author.Needs.{needs}
-use borrow.Author.Tests.{not-true, not-false}
 use Rattle.alloc_probe.proofs.range_fits.Statement.{statement}
 use Rattle.alloc_probe.proofs.range_fits.Tie as tie
 

@@ -1,11 +1,11 @@
 -- `alloc::bands::band_levels` meets its contract: below band 28 a band is a bin, and from there on the bands are added up.
 -- Assumes nothing.
 use mathlib.Core.Path.{_≡_, _∙_}
-use Prim.Native.Nat.{ℕ, _+_, _-_, _≤_, _<_, min, max}
+use Prim.Native.Nat.{ℕ, _-_, _≤_, _<_, min, max}
 use native.Mathlib.Omega.{arith}
 use borrow.Author.Needs.{needs}
 use lib.IntN.{ℤ, pos}
-use Rattle.alloc.specs.Allocation.{psdAt, startOf, endOf, bandPsd}
+use Rattle.alloc.specs.Allocation.{psdAt, bandPsd}
 use Rattle.alloc.specs.Fills.{Fills}
 use Rattle.alloc.proofs.BandEnds.{narrow, narrow-level, in-order, start-mono, end-mono}
 use Rattle.alloc.proofs.Filled.{fills-same, fills-join}

@@ -7,7 +7,7 @@ use native.Mathlib.Omega.{arith}
 use borrow.Author.Needs.{needs}
 use lib.IntN.{ℤ}
 use mir.Syntax.{w32}
-use mir.Val.{toZ, ofZ}
+use mir.Val.{toZ}
 use Rattle.signed.specs.Bound.{Below}
 use Rattle.signed.proofs.Bounds.{back-16, back-32, below-is, below-more}
 use Rattle.alloc.specs.Allocation.{psdOf, psdAt, logadd, bandSum}

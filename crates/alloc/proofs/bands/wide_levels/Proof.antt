@@ -1,12 +1,12 @@
 -- `alloc::bands::wide_levels` meets its contract. The loop's invariant is the definition's, up to `band`. Assumes nothing.
 use mathlib.Core.Path.{_≡_, _∙_}
-use Prim.Native.Nat.{ℕ, _-_, _≤_, _<_}
+use Prim.Native.Nat.{_-_, _≤_}
 use native.Mathlib.Omega.{arith}
 use borrow.Author.Needs.{needs}
 use lib.IntN.{pos}
 use Rattle.signed.proofs.Bounds.{back-32}
 use Rattle.tables.specs.Tables.{logAdd}
-use Rattle.alloc.specs.Allocation.{psdAt, startOf, endOf, bandPsd}
+use Rattle.alloc.specs.Allocation.{psdAt, bandPsd}
 use Rattle.alloc.specs.Fills.{Fills}
 use Rattle.alloc.proofs.BandEnds.{start-mono, end-mono}
 use Rattle.alloc.proofs.Filled.{fills-none, fills-set}

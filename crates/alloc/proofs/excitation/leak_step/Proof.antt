@@ -13,7 +13,7 @@ use mir.Val.{toZ, ofZ}
 use Rattle.signed.specs.Bound.{Below}
 use Rattle.signed.proofs.Bounds.{levels, back-32, below-read, below-is, below-lit, below-more}
 use Rattle.alloc.specs.Allocation.{at, lowAfter, startsAnew, fallLeak, leakStep}
-use Rattle.tables.proofs.Rules.{both-left}
+use store.Enc.{and-l}
 use Rattle.alloc.proofs.Bounded.{low-below}
 use Rattle.alloc.proofs.Leaks.{high-step}
 use Rattle.alloc.proofs.excitation.leak_step.Statement.{statement}
@@ -65,7 +65,7 @@ is-rise-requires : tie.Need-is-rise-requires
 is-rise-requires c κs =
     let s = met (c .before .before) .before in
     let anew : startsAnew (s .args .band) (s .args .l .risen) ≡ true = sym (c .before .starts-anew .ensures) ∙ c .if2 .taken in
-    omega (arith, ltb→lt (s .args .band) 7 (both-left (ltb (s .args .band) 7) (not (s .args .l .risen)) (subst T (sym anew) tt)))
+    omega (arith, ltb→lt (s .args .band) 7 (and-l (ltb (s .args .band) 7) (not (s .args .l .risen)) (subst T (sym anew) tt)))
 
 start-leak-requires : tie.Need-start-leak-requires
 start-leak-requires c κs = let low = c .before .before .before in (here-small (met low), low-small low)

@@ -1,8 +1,7 @@
 -- `alloc::pointers::by_bin` meets its contract: bands of each width in turn, and every bin below 253 is in one of them.
 -- Assumes nothing.
-use mathlib.Core.Path.{_≡_, _∙_, refl, sym, ap}
-use Prim.Native.Nat.{ℕ, _≤_, _<_, zero-le}
-use native.Mathlib.Nat.{le-refl}
+use mathlib.Core.Path.{_∙_, refl, sym, ap}
+use Prim.Native.Nat.{ℕ, _≤_, zero-le}
 use native.Mathlib.Omega.{arith}
 use borrow.Author.Needs.{needs}
 use borrow.Author.Tests.{lt-ltb, le-ltb}

@@ -12,7 +12,7 @@ use mir.Val.{toZ, ofZ}
 use Rattle.signed.proofs.Bounds.{back-32}
 use Rattle.alloc.specs.Allocation.{at}
 use Rattle.alloc.specs.Fills.{Fills}
-use Rattle.alloc.specs.Steps.{Address, bapAt}
+use Rattle.alloc.specs.Stages.{Address, bapAt}
 use Rattle.alloc.proofs.Bounded.{natural}
 use Rattle.alloc.proofs.Filled.{fills-none, fills-set}
 use Rattle.alloc.proofs.pointers.pointers.Statement.{statement}

@@ -1,11 +1,11 @@
 -- `alloc::pointers::spread` meets its contract. The loop's invariant: the bins of the bands before `band` have their thresholds.
 -- Assumes nothing.
 use mathlib.Core.Path.{_≡_, _∙_, sym, ap}
-use Prim.Native.Nat.{ℕ, _+_, _-_, _≤_, _<_}
+use Prim.Native.Nat.{ℕ, _+_, _-_, _≤_}
 use native.Mathlib.Nat.{le-refl}
 use native.Mathlib.Omega.{arith}
 use borrow.Author.Needs.{needs}
-use lib.IntN.{ℤ, pos}
+use lib.IntN.{pos}
 use Rattle.signed.proofs.Bounds.{back-32}
 use Rattle.alloc.specs.Allocation.{at, bandOf, startOf}
 use Rattle.alloc.specs.Fills.{Fills}

@@ -1,16 +1,15 @@
 -- `alloc::pointers::threshold_at` meets its contract: each stage has few enough bits for the next. Assumes nothing.
 use mathlib.Core.Path.{_≡_, _∙_}
 use native.Mathlib.Omega.{arith}
-use borrow.Author.Needs.{needs}
 use lib.IntN.{ℤ, pos, _+ℤ_}
 use mir.Syntax.{w32}
 use mir.Val.{toZ, ofZ}
 use mir.ValLaws.{toZ-ofZ}
 use Rattle.signed.specs.Level.{maxZ}
 use Rattle.signed.specs.Bound.{Below}
-use Rattle.signed.proofs.Bounds.{back-32, fits-32, below-is, below-more, below-max, below-read, below-add}
+use Rattle.signed.proofs.Bounds.{back-32, fits-32, below-more, below-max, below-read, below-add}
 use Rattle.alloc.specs.Allocation.{overKnee, threshold}
-use Rattle.alloc.specs.Steps.{thresholdAt}
+use Rattle.alloc.specs.Stages.{thresholdAt}
 use Rattle.alloc.proofs.Bounded.{knee-below}
 use Rattle.alloc.proofs.pointers.threshold_at.Statement.{statement}
 use Rattle.alloc.proofs.pointers.threshold_at.Tie as tie

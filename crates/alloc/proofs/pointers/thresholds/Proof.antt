@@ -12,7 +12,7 @@ use Rattle.signed.proofs.Bounds.{back-32, below-read}
 use Rattle.tables.proofs.Rule.{hearing-at-most}
 use Rattle.alloc.specs.Allocation.{at}
 use Rattle.alloc.specs.Fills.{Fills}
-use Rattle.alloc.specs.Steps.{thresholdBy}
+use Rattle.alloc.specs.Stages.{thresholdBy}
 use Rattle.alloc.proofs.Filled.{fills-none, fills-set, fills-fresh}
 use Rattle.alloc.proofs.pointers.thresholds.Statement.{statement}
 use Rattle.alloc.proofs.pointers.thresholds.Tie as tie

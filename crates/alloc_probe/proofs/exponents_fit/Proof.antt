@@ -1,7 +1,8 @@
 -- `alloc_probe::exponents_fit` meets its contract. The loop's invariant: what was found so far and the exponents from `bin` on decide together.
 -- Assumes nothing.
 use mathlib.Core.Path.{_≡_, _∙_, refl, sym, ap}
-use mathlib.Core.Bool.{Bool, true, false, _&&_}
+use mathlib.Core.Bool.{Bool, _&&_, and-true, and-assoc, and-comm}
+use mathlib.Core.Logic.{⊎-elim}
 use mathlib.Core.List.{List, []}
 use Prim.Native.Nat.{ℕ, suc, _+_, _-_, _≤_, _<_}
 use native.Mathlib.Omega.{arith}
@@ -21,21 +22,26 @@ Inv-loop exponents fit₀ bin₀ fit bin = (bin ≤ 256) × (exponentsFit expone
 abbrev μ-loop : tie.MeasureT-loop
 μ-loop exponents fit₀ bin₀ fit bin = 256 - bin
 
-both-both : (a b c : Bool) → (a && (b && c)) ≡ ((a && b) && c)
-both-both true b c = refl
-both-both false b c = refl
-
-both-yes : (a : Bool) → (a && true) ≡ a
-both-yes true = refl
-both-yes false = refl
-
 -- one exponent more
-one-more : (es : List ℤ) (bin : ℕ) (fit t : Bool) → bin < length es → t ≡ (fit && isExponent (at es bin)) → (fit && exponentsFit (drop bin es)) ≡ (t && (exponentsFit (drop (bin + 1) es)))
+one-more : (es : List ℤ) (bin : ℕ) (fit t : Bool) → bin < length es → t ≡ (isExponent (at es bin) && fit) → (fit && exponentsFit (drop bin es)) ≡ (t && (exponentsFit (drop (bin + 1) es)))
 unfolding exponentsFit
 one-more es bin fit t h e =
     let next : bin + 1 ≡ suc bin = omega arith in
-    let here : exponentsFit (drop bin es) ≡ (isExponent (at es bin) && exponentsFit (drop (suc bin) es)) = ap exponentsFit (drop-cons es bin _ h) in
-    rw (e, next, here) (both-both fit (isExponent (at es bin)) (exponentsFit (drop (suc bin) es)))
+    let rest = exponentsFit (drop (suc bin) es) in
+    let here : exponentsFit (drop bin es) ≡ (isExponent (at es bin) && rest) = ap exponentsFit (drop-cons es bin _ h) in
+    rw (e, next, here) (sym (and-assoc fit (isExponent (at es bin)) rest) ∙ ap (λ (b : Bool). (b && rest)) (and-comm fit (isExponent (at es bin))))
+
+-- what is found of one
+found : (c : tie.Joined1 Inv-loop μ-loop) → c .if1 .fit ≡ (isExponent (at (c .before .before .before .before .before .args .t1) (c .before .before .before .before .loop .bin)) && c .before .before .before .before .loop .fit)
+found c =
+    let test = c .before in
+    let turn = test .before .before .before in
+    let e = at (turn .before .args .t1) (turn .loop .bin) in
+    let is : test .is-exponent .result ≡ isExponent e = rw (back-16 e (test .before .is-exponent-arg .given)) at (test .is-exponent .ensures) in
+    ⊎-elim
+    (λ w. w .1 ∙ ap (λ (b : Bool). (b && turn .loop .fit)) (sym (w .0 .taken) ∙ is))
+    (λ w. w .1 ∙ w .0 .left ∙ ap (λ (b : Bool). (b && turn .loop .fit)) (sym (w .0 .left) ∙ is))
+    (c .if1 .came)
 
 pub exponents-fit-spec : {M : Type 1} → statement M
 unfolding exponentsFit
@@ -48,21 +54,16 @@ exponents-fit-spec =
     (λ c. search needs)
     (λ c. search needs)
     (λ c κs. search needs)
-    (λ c κs. search needs)
     (λ c. search needs)
     (λ c. search needs)
     (λ c.
-    let test = c .before in
-    let turn = test .before .before .before in
+    let turn = c .before .before .before .before in
     let es = turn .before .args .t1 in
-    let bin = turn .loop .bin in
     let long : length es ≡ 256 = search needs in
-    let e = at es bin in
-    let is : c .both .result ≡ (turn .loop .fit && isExponent e) = c .both .ensures ∙ ap (_&&_ (turn .loop .fit)) (rw (back-16 e (test .before .is-exponent-arg .given)) at (test .is-exponent .ensures)) in
-    (omega arith, turn .loop .inv .1 ∙ one-more es bin (turn .loop .fit) (c .both .result) (omega (arith, long)) is))
+    (omega arith, turn .loop .inv .1 ∙ one-more es (turn .loop .bin) (turn .loop .fit) (c .if1 .fit) (omega (arith, long)) (found c)))
     (λ c.
     let turn = c .before in
     let es = turn .before .args .t1 in
     let long : length es ≡ 256 = search needs in
     let none : drop (turn .loop .bin) es ≡ [] = drop-of-length-le es {i = turn .loop .bin} (omega arith) in
-    sym (turn .loop .inv .1 ∙ ap (λ (l : List ℤ). (turn .loop .fit && exponentsFit l)) none ∙ both-yes (turn .loop .fit))))
+    sym (turn .loop .inv .1 ∙ ap (λ (l : List ℤ). (turn .loop .fit && exponentsFit l)) none ∙ and-true (turn .loop .fit))))

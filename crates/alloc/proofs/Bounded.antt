@@ -6,17 +6,15 @@ use Prim.Native.Nat.{ℕ, zero, suc, _+_, _*_, _/_, _^_, _≤_, _<_, min}
 use native.Mathlib.Omega.{arith}
 use native.Mathlib.Nat.{lt-of-lt-of-le, pow-succ'}
 use native.Mathlib.Numerals.{add-one}
-use lib.Dec.{T, leb, ltb, lit<, leb→le}
+use lib.Dec.{T, leb, ltb, leb→le}
 use lib.IntN.{ℤ, pos, negsuc, natAbs, _+ℤ_, _-ℤ_, _*ℤ_}
-use lib.ListN.{getD}
 use lib.Signed.{mag, ltZ, _≤ℤ_}
 use Rattle.signed.specs.Level.{maxZ, eqZ}
-use Rattle.signed.specs.Bound.{Below, bounds, mag-add, mag-cond, below-is, below-u16, below-more, below-add, below-shr, below-128, below-lit, below-cond, below-fall}
-use Rattle.signed.specs.Order.{plus-mono, plus-above}
-use Rattle.tables.specs.Tables.{logAdd}
+use Rattle.signed.specs.Bound.{Below}
+use Rattle.signed.proofs.Bounds.{bounds, mag-add, mag-cond, below-is, below-u16, below-more, below-add, below-shr, below-128, below-lit, below-cond, below-fall}
+use Rattle.signed.proofs.Order.{plus-mono, plus-above}
 use Rattle.alloc.specs.Allocation.{at, psdOf, psdAt, logadd, lowcomp, bandSum, lfeLast, lowAfter, fallTo, overKnee, kept, threshold, deltaOf}
 use Rattle.alloc.specs.Sound.{Exponents}
-use Rattle.alloc.specs.Steps.{relative, relativeAt}
 use Rattle.tables.proofs.Rule.{log-add-at-most}
 
 -- the sum is between the larger level and 64 more
@@ -53,10 +51,6 @@ natural (negsuc n) low high = absurd (low .le)
 -- an exponent, and the level that it stands for
 exponent-below : (z : ℤ) → pos 0 ≤ℤ z → z ≤ℤ pos 24 → Below 5 z
 exponent-below z low high = let e = natural z low high in below-is (e .0) (record { below = omega arith })
-
-pub relative-below : (exponents : List ℤ) → Exponents exponents → (bin : ℕ) → Below 13 (relativeAt exponents bin)
-unfolding relative
-relative-below exponents all bin = let e = exponent-below (at exponents bin) (all bin .0) (all bin .1) in search (bounds, below-128) depth 12
 
 pub level-below : (exponents : List ℤ) → Exponents exponents → (bin : ℕ) → Below 13 (psdAt exponents bin)
 unfolding psdOf

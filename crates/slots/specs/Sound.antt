@@ -1,5 +1,5 @@
--- What bounds the values that are carried from block to block: each fits the field that it was read from. Contracts cite it, so that the
--- code's indexes and sums are in range; the definition does without.
+-- What bounds the values that are carried from block to block: each fits the field that it was read from. No part of the definition: contracts
+-- cite it, so that the code's indexes and sums are in range.
 use mathlib.Core.List.{List, []}
 use Prim.Native.Nat.{ℕ, _+_, _*_, _<_, _≤_}
 use lib.IntN.{ℤ, pos}

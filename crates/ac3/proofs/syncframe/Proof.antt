@@ -13,7 +13,7 @@ unfolding syncframe
 no-header c =
     let t2 = c in
     let t1 = t2 .before .before .before .before .before .before in
-    let nothing : Audio = record { header = t1 .header .result .header; tally = uncounted; end = 0 } in
+    let nothing : Audio = record { header = t1 .read .result .header; tally = uncounted; end = 0 } in
     rw (t2 .refused .ensures) (told-refused {a = nothing} (then _ (t1 .read .ensures .0) (stopped (t2 .before .if1 .taken))) (t2 .before .if1 .taken))
 
 no-audio : tie.Need-returns-2

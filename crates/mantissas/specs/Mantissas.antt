@@ -66,12 +66,12 @@ parametersOf fscod st p =
 unfoldable pub pointers : (fscod : ℕ) → AllocState → List (List ℤ) → Part → List ℕ
 pointers fscod st exps p = allocation (getD exps (p .slot) []) (parametersOf fscod st p)
 
-abbrev pub partPointers : (fscod : ℕ) → AllocState → List (List ℤ) → (quiet : Bool) → Part → List ℕ
-partPointers fscod st exps quiet p = cond quiet (replicate (p .end - p .start) 0) (pointers fscod st exps p)
+abbrev pub partPointers : (fscod : ℕ) → AllocState → List (List ℤ) → (isSilent : Bool) → Part → List ℕ
+partPointers fscod st exps isSilent p = cond isSilent (replicate (p .end - p .start) 0) (pointers fscod st exps p)
 
-unfoldable pub allPointers : (fscod : ℕ) → AllocState → List (List ℤ) → (quiet : Bool) → List Part → List ℕ
-allPointers fscod st exps quiet [] = []
-allPointers fscod st exps quiet (p ∷ ps) = partPointers fscod st exps quiet p ++ allPointers fscod st exps quiet ps
+unfoldable pub allPointers : (fscod : ℕ) → AllocState → List (List ℤ) → (isSilent : Bool) → List Part → List ℕ
+allPointers fscod st exps isSilent [] = []
+allPointers fscod st exps isSilent (p ∷ ps) = partPointers fscod st exps isSilent p ++ allPointers fscod st exps isSilent ps
 
 -- ---- 6.3.5: the bits that each pointer takes
 
@@ -107,14 +107,14 @@ widths g (bap ∷ baps) = bitsOf g bap ∷ widths (nowOpen g bap) baps
 -- ---- the mantissas of a block: the bit at which they begin
 
 -- coupling needs its leak, unless every pointer is 0
-abbrev pub leakMissing : (quiet cplinu sent : Bool) → Bool
-leakMissing quiet cplinu sent = not quiet && (cplinu && not sent)
+abbrev pub leakMissing : (isSilent cplinu sent : Bool) → Bool
+leakMissing isSilent cplinu sent = not isSilent && (cplinu && not sent)
 
 unfoldable pub mantissas : (blk fscod nfchans : ℕ) (lfeon : Bool) → Coupling → (ends : List ℕ) → AllocState → List (List ℤ) → Grammar ℕ
 mantissas blk fscod nfchans lfeon c ends st exps = do
   let ps = parts nfchans lfeon c ends
-  let quiet = silent (st .offsets) ps
-  refuseIf (leakMissing quiet (c .cplinu) (st .leak .sent)) 20
+  let isSilent = silent (st .offsets) ps
+  refuseIf (leakMissing isSilent (c .cplinu) (st .leak .sent)) 20
   start ← position
-  pieces (oneRoled blk Mantissas Name.mantissas) (widths noneOpen (allPointers fscod st exps quiet ps))
+  pieces (oneRoled blk Mantissas Name.mantissas) (widths noneOpen (allPointers fscod st exps isSilent ps))
   done start

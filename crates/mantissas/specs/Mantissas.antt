@@ -1,6 +1,6 @@
 -- The bit allocation of a block and its mantissas (4.3.3, 4.4.3.61 to .63, 6.2.2.1, 6.3.5): one list of bit allocation pointers, one pass. A `bap`
 -- is one such pointer.
-use mathlib.Core.Bool.{Bool, true, false, _&&_, not, cond}
+use mathlib.Core.Bool.{Bool, _&&_, not, cond}
 use mathlib.Core.List.{List, [], _∷_, _++_}
 use Prim.Native.Nat.{ℕ, _+_, _-_, _*_, _%_}
 use lib.Dec.{eqb}

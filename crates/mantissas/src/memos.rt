@@ -16,7 +16,7 @@ use blocks::Strategies;
 ghost use mathlib.Core.Path.{_≡_};
 ghost use mathlib.Core.Bool.{true, cond};
 ghost use mathlib.Core.List.{List};
-ghost use Prim.Native.Nat.{ℕ, _*_, _<_, _≤_};
+ghost use Prim.Native.Nat.{ℕ, _*_, _<_};
 ghost use lib.IntN.{ℤ};
 ghost use Rattle.blocks.specs.Slots.{isNew};
 ghost use Rattle.blocks.specs.Sound.{SoundAlloc, SoundExps};

@@ -9,7 +9,7 @@ use crate::memos::count_parts;
 use crate::pointers::part_pointers;
 use syntax::Cursor;
 ghost use mathlib.Core.Path.{_≡_};
-ghost use Prim.Native.Nat.{ℕ, _*_, _≤_};
+ghost use Prim.Native.Nat.{_*_, _≤_};
 ghost use Rattle.syntax.specs.Reads.{walked};
 ghost use Rattle.blocks.specs.Sound.{SoundExps};
 ghost use Rattle.mantissas.specs.Mantissas.{noneOpen, widths, allPointers};

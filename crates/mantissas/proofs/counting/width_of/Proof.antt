@@ -1,4 +1,4 @@
--- `mantissas::width_of` meets its contract: it is the definition's sum. Assumes nothing.
+-- `mantissas::counting::width_of` meets its contract: it is the definition's sum. Assumes nothing.
 use mathlib.Core.Path.{refl}
 use borrow.Author.Needs.{needs}
 use Rattle.mantissas.specs.Counts.{widthOf}

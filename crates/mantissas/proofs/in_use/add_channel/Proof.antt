@@ -1,4 +1,4 @@
--- `mantissas::add_channel` meets its contract: the tests say whether the channel is the first coupled one. Assumes nothing.
+-- `mantissas::in_use::add_channel` meets its contract: the tests say whether the channel is the first coupled one. Assumes nothing.
 use mathlib.Core.Bool.{_&&_, false}
 use mathlib.Core.List.{append-assoc}
 use mathlib.Core.Logic.{⊎-elim}

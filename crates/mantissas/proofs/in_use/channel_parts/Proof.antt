@@ -1,4 +1,4 @@
--- `mantissas::channel_parts` meets its contract: what is in the list, and then what the channels that are left put there, is
+-- `mantissas::in_use::channel_parts` meets its contract: what is in the list, and then what the channels that are left put there, is
 -- the whole. Each channel puts one slot there, and coupling comes once. Assumes nothing.
 use mathlib.Core.Bool.{Bool, true, false, cond}
 use mathlib.Core.List.{_++_, append-nil}

@@ -1,4 +1,4 @@
--- `mantissas::no_parts` meets its contract, by computing. Assumes nothing.
+-- `mantissas::in_use::no_parts` meets its contract, by computing. Assumes nothing.
 use mathlib.Core.Path.{refl}
 use borrow.Author.Needs.{needs}
 use Rattle.alloc.specs.Allocation.{from}

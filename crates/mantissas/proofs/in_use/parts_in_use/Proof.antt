@@ -1,4 +1,4 @@
--- `mantissas::parts_in_use` meets its contract: LFE is last, where it is on. Assumes nothing.
+-- `mantissas::in_use::parts_in_use` meets its contract: LFE is last, where it is on. Assumes nothing.
 use mathlib.Core.List.{append-nil}
 use mathlib.Core.Path.{sym, _∙_}
 use borrow.Author.Needs.{needs}

@@ -1,4 +1,4 @@
--- `mantissas::push` meets its contract: a store at the place after the last adds an entry. Assumes nothing.
+-- `mantissas::in_use::push` meets its contract: a store at the place after the last adds an entry. Assumes nothing.
 use mathlib.Core.Path.{_≡_, refl, sym, _∙_}
 use native.Mathlib.Omega.{arith}
 use lib.ListN.{length, length-map}

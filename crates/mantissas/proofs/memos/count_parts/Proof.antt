@@ -1,4 +1,4 @@
--- `mantissas::count_parts` meets its contract: what is counted, and then the slots that are left, is the whole. Assumes nothing.
+-- `mantissas::memos::count_parts` meets its contract: what is counted, and then the slots that are left, is the whole. Assumes nothing.
 use mathlib.Core.Path.{_≡_, refl, sym, _∙_}
 use Prim.Native.Nat.{_-_, _*_, _≤_}
 use native.Mathlib.Omega.{arith}

@@ -1,6 +1,4 @@
 -- `mantissas::memos::is_new` meets its contract: the tests say which of the three the slot is. Assumes nothing.
-use mathlib.Core.Bool.{not}
-use mathlib.Core.Path.{ap}
 use borrow.Author.Needs.{needs}
 use borrow.Author.Tests.{eq-eqb, ne-eqb}
 use Rattle.mantissas.proofs.memos.is_new.Statement.{statement}

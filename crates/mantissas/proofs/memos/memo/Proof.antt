@@ -1,4 +1,4 @@
--- `mantissas::memo` meets its contract: what was read fits its field, so that it is written as it is. Assumes nothing.
+-- `mantissas::memos::memo` meets its contract: what was read fits its field, so that it is written as it is. Assumes nothing.
 use native.Mathlib.Omega.{arith}
 use borrow.Author.Needs.{needs}
 use Rattle.mantissas.proofs.memos.memo.Statement.{statement}

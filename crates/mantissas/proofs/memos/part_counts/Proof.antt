@@ -1,4 +1,4 @@
--- `mantissas::part_counts` meets its contract: pointers that are all 0 count for nothing. Assumes nothing.
+-- `mantissas::memos::part_counts` meets its contract: pointers that are all 0 count for nothing. Assumes nothing.
 use Prim.Native.Nat.{_-_}
 use native.Mathlib.Omega.{arith}
 use borrow.Author.Needs.{needs}

@@ -1,4 +1,4 @@
--- `mantissas::same_basis` meets its contract: the entries before i are the same. Assumes nothing.
+-- `mantissas::memos::same_basis` meets its contract: the entries before i are the same. Assumes nothing.
 use mathlib.Core.Bool.{true≢false}
 use mathlib.Core.Path.{_≡_, sym}
 use Prim.Native.Nat.{ℕ, _-_, _<_}

@@ -1,4 +1,4 @@
--- `mantissas::deltas_of` meets its contract: the test says whether the slot is LFE. Assumes nothing.
+-- `mantissas::parameters::deltas_of` meets its contract: the test says whether the slot is LFE. Assumes nothing.
 use mathlib.Core.List.{[]}
 use mathlib.Core.Path.{_≡_, refl, sym, _∙_}
 use Prim.Native.Nat.{_+_, _*_, _<_}

@@ -1,4 +1,4 @@
--- `mantissas::gains_of` meets its contract: each table is looked up as the definition does. Assumes nothing.
+-- `mantissas::parameters::gains_of` meets its contract: each table is looked up as the definition does. Assumes nothing.
 use borrow.Author.Needs.{needs}
 use Rattle.mantissas.proofs.parameters.gains_of.Statement.{statement}
 use Rattle.mantissas.proofs.parameters.gains_of.Tie as tie

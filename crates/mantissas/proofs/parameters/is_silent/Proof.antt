@@ -1,4 +1,4 @@
--- `mantissas::is_silent` meets its contract: what was passed had offset 0, so that what is left decides. Assumes nothing.
+-- `mantissas::parameters::is_silent` meets its contract: what was passed had offset 0, so that what is left decides. Assumes nothing.
 use mathlib.Core.Path.{_≡_, refl}
 use Prim.Native.Nat.{_-_}
 use native.Mathlib.Omega.{arith}

@@ -1,4 +1,4 @@
--- `mantissas::leak_of` meets its contract: the test says whether the slot is coupling. Assumes nothing.
+-- `mantissas::parameters::leak_of` meets its contract: the test says whether the slot is coupling. Assumes nothing.
 use mathlib.Core.Path.{refl}
 use Prim.Native.Nat.{_+_, _*_}
 use native.Mathlib.Omega.{arith}

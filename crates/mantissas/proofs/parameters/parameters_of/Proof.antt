@@ -1,4 +1,4 @@
--- `mantissas::parameters_of` meets its contract: each table is looked up as the definition does, and what it gives is in range. Assumes nothing.
+-- `mantissas::parameters::parameters_of` meets its contract: each table is looked up as the definition does, and what it gives is in range. Assumes nothing.
 use mathlib.Core.Path.{_∙_}
 use borrow.Author.Needs.{needs}
 use Rattle.signed.specs.Bound.{below-is, back-32}

@@ -1,4 +1,4 @@
--- `mantissas::walk` meets its contract: a walk that fits the frame ends where the sum of its pieces says, which is what the
+-- `mantissas::walk::walk` meets its contract: a walk that fits the frame ends where the sum of its pieces says, which is what the
 -- counts give. Assumes nothing.
 use mathlib.Core.Path.{_≡_}
 use native.Mathlib.Omega.{arith}

@@ -1,4 +1,4 @@
--- `mantissas::walk_parts` meets its contract: the invariant says which slots are left, from the counts and the cursor on.
+-- `mantissas::walk::walk_parts` meets its contract: the invariant says which slots are left, from the counts and the cursor on.
 -- Assumes nothing.
 use mathlib.Core.Path.{_≡_, refl, sym, _∙_}
 use Prim.Native.Nat.{_-_, _*_}

@@ -3,24 +3,25 @@ use mathlib.Core.Bool.{Bool}
 use mathlib.Core.List.{List, _++_}
 use mathlib.Core.Path.{_≡_, _∙_}
 use Prim.Native.Nat.{ℕ, _+_, _-_, _<_}
-use native.Mathlib.Omega.{arith}
+use lib.Dec.{lit<}
 use lib.IntN.{ℤ}
 use lib.ListN.{getD, replicate}
 use Rattle.alloc.proofs.Filled.{cleared}
 use Rattle.alloc.proofs.Noted.{from-same}
+use Rattle.blocks.specs.Sound.{Entries}
 use Rattle.blocks.specs.declared.AllocState.{AllocState}
+use Rattle.blocks.proofs.Entries.{every-replicate}
 use Rattle.mantissas.specs.Mantissas.{partPointers, allPointers}
-use Rattle.mantissas.specs.Sound.{between, noPart, Pointers}
+use Rattle.mantissas.specs.Sound.{between, noPart}
 use Rattle.mantissas.specs.declared.Part.{Part}
 use Rattle.mantissas.proofs.Between.{between-one, from-constant}
 
 -- an array of nothing but 0
-module _ (n first last : ℕ) where
-  pub silent-lists : between {A = ℕ} 0 (replicate n 0) first last ≡ replicate (last - first) 0
-  silent-lists = from-same _ (λ _. 0) (last - first) first (λ k p q. cleared n k) ∙ from-constant 0 (last - first) first
+pub none-below : (n : ℕ) → Entries (replicate n 0) 16
+none-below n = every-replicate (λ x. x < 16) 0 n 0 (lit< tt) (lit< tt)
 
-  pub silent-pointers : Pointers (replicate n 0) first last
-  silent-pointers bin p q = rw (cleared {A = ℕ} n bin {d = 0}) (omega arith)
+pub silent-lists : (n first last : ℕ) → between {A = ℕ} 0 (replicate n 0) first last ≡ replicate (last - first) 0
+silent-lists n first last = from-same _ (λ _. 0) (last - first) first (λ k p q. cleared n k) ∙ from-constant 0 (last - first) first
 
 -- the slots that are left, and then those after the first of them
 pub first-part : (fscod : ℕ) (st : AllocState) (exps : List (List ℤ)) (isSilent : Bool) (list : List Part) {i count : ℕ} → i < count

@@ -39,7 +39,3 @@ listed ps = between noPart (ps .list) 0 (ps .count)
 pub record SoundParts (ps : Parts) : Type 0 where
   pub count : ps .count ≤ 7
   pub each : (i : ℕ) → SoundPart (getD (ps .list) i noPart)
-
--- what stands there are pointers
-abbrev pub Pointers : List ℕ → (first last : ℕ) → Type 0
-Pointers pointers first last = (bin : ℕ) → first ≤ bin → bin < last → getD pointers bin 0 < 16

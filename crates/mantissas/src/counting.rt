@@ -4,8 +4,9 @@ ghost use mathlib.Core.Path.{_≡_};
 ghost use Prim.Native.Nat.{_*_, _<_, _≤_};
 ghost use Rattle.tables.specs.Tables.{mantissaBits};
 ghost use Rattle.alloc.specs.Allocation.{from};
+ghost use Rattle.blocks.specs.Sound.{Entries};
 ghost use Rattle.mantissas.specs.Counts.{isPointer, noCounts, counted, countedAll, plus, widthOf, AtMost, packed};
-ghost use Rattle.mantissas.specs.Sound.{between, Pointers};
+ghost use Rattle.mantissas.specs.Sound.{between};
 
 // Nothing counted, and no group open: so each block begins.
 pub const NO_COUNTS: Counts = Counts {
@@ -50,7 +51,7 @@ pub fn weights() -> [u64; 16]
 
 // The mantissas of some bins.
 pub fn count_bins(pointers: &[u8; 256], start: usize, end: usize) -> Counts
-    requires { ⌜ (end ≤ 253) × Pointers (now pointers) start end ⌝ }
+    requires { ⌜ (end ≤ 253) × Entries (now pointers) 16 ⌝ }
     ensures { λ r. ⌜ r ≡ countedAll noCounts (between 0 (now (pointers .entry)) start end) ⌝ }
 {
     let weights = weights();

@@ -4,10 +4,10 @@ use crate::Setting;
 use crate::parameters::parameters_of;
 ghost use mathlib.Core.Path.{_≡_};
 ghost use lib.ListN.{length, replicate};
-ghost use Rattle.blocks.specs.Sound.{SoundExps};
+ghost use Rattle.blocks.specs.Sound.{Entries, SoundExps};
 ghost use Rattle.mantissas.specs.Mantissas as grammar;
 ghost use Rattle.mantissas.specs.Mantissas.{partPointers};
-ghost use Rattle.mantissas.specs.Sound.{SoundSetting, SoundPart, between, Pointers};
+ghost use Rattle.mantissas.specs.Sound.{SoundSetting, SoundPart, between};
 
 pub fn no_pointers() -> [u8; 256]
     ensures { λ r. ⌜ r ≡ replicate 256 0 ⌝ }
@@ -15,11 +15,11 @@ pub fn no_pointers() -> [u8; 256]
     [0u8; 256]
 }
 
-// The pointers of a slot's bins; what stands elsewhere is not told.
+// The pointers of a slot's bins; of what stands elsewhere only the bound is told.
 pub fn slot_pointers(out: &mut [u8; 256], by: Setting, exps: &[[i16; 256]; 7], p: Part)
-    requires { ⌜ (length (now out) ≡ 256) × SoundSetting by × SoundExps (now exps) × SoundPart p ⌝ }
+    requires { ⌜ (length (now out) ≡ 256) × Entries (now out) 16 × SoundSetting by × SoundExps (now exps) × SoundPart p ⌝ }
     ensures { λ _. ⌜ between 0 (now (out .exit)) (p .start) (p .end) ≡ grammar.pointers (by .fscod) (by .st) (now (exps .entry)) p ⌝ }
-    ensures { λ _. ⌜ Pointers (now (out .exit)) (p .start) (p .end) ⌝ }
+    ensures { λ _. ⌜ Entries (now (out .exit)) 16 ⌝ }
 {
     let at = p.slot as usize;
     *out = alloc::allocate(&exps[at], parameters_of(by.fscod, by.st, p));
@@ -29,7 +29,7 @@ pub fn slot_pointers(out: &mut [u8; 256], by: Setting, exps: &[[i16; 256]; 7], p
 pub fn part_pointers(by: Setting, exps: &[[i16; 256]; 7], p: Part) -> [u8; 256]
     requires { ⌜ SoundSetting by × SoundExps (now exps) × SoundPart p ⌝ }
     ensures { λ r. ⌜ between 0 r (p .start) (p .end) ≡ partPointers (by .fscod) (by .st) (now (exps .entry)) (by .silent) p ⌝ }
-    ensures { λ r. ⌜ Pointers r (p .start) (p .end) ⌝ }
+    ensures { λ r. ⌜ Entries r 16 ⌝ }
 {
     let mut pointers = no_pointers();
     if by.silent {

@@ -11,9 +11,9 @@ use syntax::Cursor;
 ghost use mathlib.Core.Path.{_≡_};
 ghost use Prim.Native.Nat.{_*_, _≤_};
 ghost use Rattle.syntax.specs.Reads.{walked};
-ghost use Rattle.blocks.specs.Sound.{SoundExps};
+ghost use Rattle.blocks.specs.Sound.{Entries, SoundExps};
 ghost use Rattle.mantissas.specs.Mantissas.{noneOpen, widths, allPointers};
-ghost use Rattle.mantissas.specs.Sound.{SoundSetting, SoundParts, listed, between, Pointers};
+ghost use Rattle.mantissas.specs.Sound.{SoundSetting, SoundParts, listed, between};
 ghost use Rattle.mantissas.specs.Counts.{countedAll, openAfter, AtMost};
 ghost use Rattle.mantissas.specs.Kept.{Kept};
 
@@ -24,7 +24,7 @@ struct Walked {
 
 // A mantissa takes as many bits as the total grows by.
 fn walk_bins(c: Cursor, n: Counts, pointers: &[u8; 256], start: usize, end: usize) -> Walked
-    requires { ⌜ AtMost (6 * 253) n × ((end ≤ 253) × Pointers (now pointers) start end) ⌝ }
+    requires { ⌜ AtMost (6 * 253) n × ((end ≤ 253) × Entries (now pointers) 16) ⌝ }
     ensures { λ r. ⌜ r .counts ≡ countedAll n (between 0 (now (pointers .entry)) start end) ⌝ }
     ensures { λ r. ⌜ r .cursor ≡ walked (widths (openAfter n) (between 0 (now (pointers .entry)) start end)) c ⌝ }
 {

@@ -27,7 +27,7 @@ module _ (c : tie.After-bap Inv-loop μ-loop) where
   bap = getD (c .before .before .before .before .args .pointers .now) (c .before .before .loop .bin) 0
 
   small : bap < 16
-  small = c .before .before .before .before .pre .1 (c .before .before .loop .bin) (omega arith) (omega arith)
+  small = c .before .before .before .before .pre .1 (c .before .before .loop .bin)
 
   weighs : getD (c .before .before .before .weights .result) bap 0 ≡ packed (counted noCounts bap)
   weighs =

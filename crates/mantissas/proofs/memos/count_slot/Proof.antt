@@ -2,6 +2,7 @@
 use native.Mathlib.Omega.{arith}
 use borrow.Author.Needs.{needs}
 use Rattle.mantissas.specs.Counts.{noCounts}
+use Rattle.mantissas.proofs.Allocated.{none-below}
 use Rattle.mantissas.proofs.Counted.{bins-at-most, no-more, none-counted}
 use Rattle.mantissas.proofs.memos.count_slot.Statement.{statement}
 use Rattle.mantissas.proofs.memos.count_slot.Tie as tie
@@ -20,6 +21,6 @@ count-slot-spec =
     tie.close
     (tie.spec
     (λ c κs. search needs)  -- no-pointers-requires
-    (λ c κs. let s = c .before .before in (rw (c .before .no-pointers .ensures), s .pre .0, s .pre .1, s .pre .2))  -- slot-pointers-requires
+    (λ c κs. let s = c .before .before in (rw (c .before .no-pointers .ensures), rw (c .before .no-pointers .ensures) (none-below 256), s .pre .0, s .pre .1, s .pre .2))  -- slot-pointers-requires
     (λ c κs. let t = c .before in (t .before .before .before .pre .2 .end, t .slot-pointers .ensures .1))  -- count-bins-requires
     returns)

@@ -69,7 +69,7 @@ with-one-requires c κs =
     let test = c .before .before in
     let at = test .before .loop in
     let bits = test .before .before in
-    (no-more (at .inv .2) (omega (arith, at .inv .3)), bits .mantissa-bits .ensures, bits .before .pre .1 .1 (at .bin) (omega arith) (omega arith))
+    (no-more (at .inv .2) (omega (arith, at .inv .3)), bits .mantissa-bits .ensures, bits .before .pre .1 .1 (at .bin))
 
 pub walk-bins-spec : {M : Type 1} → statement M
 walk-bins-spec =

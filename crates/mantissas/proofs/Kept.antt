@@ -16,8 +16,9 @@ use Rattle.blocks.specs.Slots.{isNew}
 use Rattle.blocks.specs.declared.AllocState.{AllocState}
 use Rattle.blocks.specs.declared.Strategies.{Strategies}
 use Rattle.mantissas.specs.Counts.{noCounts, countedAll}
-use Rattle.mantissas.specs.Kept.{memoOf, parametersBy, pointersBy, countsIn, SameBasis, KeptOf, Kept, nothing, strategyOf, Keeps, KeptUnlessNew}
+use Rattle.mantissas.specs.Kept.{memoOf, parametersBy, pointersBy, countsIn, SameBasis, KeptOf, Kept, nothing, KeptUnlessNew}
 use Rattle.mantissas.specs.Mantissas.{deltasOf, parametersOf, pointers}
+use Rattle.mantissas.specs.Reused.{strategyOf, Keeps, ReusedBy}
 use Rattle.mantissas.specs.declared.Counts.{Counts}
 use Rattle.mantissas.specs.declared.Part.{Part}
 
@@ -80,15 +81,15 @@ kept-none fscod exps = record { seven = refl; each = λ slot h. rw (filled-entry
 
 -- exponents that are as they were leave what is kept of them true
 pub kept-unless-new : {fscod : ℕ} {s : Strategies} {memos : List (List ℕ)} {before after : List (List ℤ)}
-    → Kept fscod memos before → Keeps s before after → KeptUnlessNew fscod s memos after
-kept-unless-new all same = record { seven = all .seven; each = λ slot h reused. rw (same slot h reused) (all .each slot h) }
+    → Kept fscod memos before → Keeps (ReusedBy s) before after → KeptUnlessNew fscod s memos after
+kept-unless-new all same = record { seven = all .seven; each = λ slot h reused. rw (same .each slot reused) (all .each slot h) }
 
 -- ---- what is new is forgotten, slot by slot
 
 -- the slots before one are done: what is kept of them is true; of the others it is true where the block has no new exponents
 pub record KeptBefore (fscod done : ℕ) (s : Strategies) (memos : List (List ℕ)) (exps : List (List ℤ)) : Type 0 where
   pub seven : length memos ≡ 7
-  pub each : (slot : ℕ) → slot < 7 → (slot < done) ⊎ (strategyOf s slot ≡ 0) → KeptOf fscod slot (getD memos slot []) (getD exps slot [])
+  pub each : (slot : ℕ) → slot < 7 → (slot < done) ⊎ ReusedBy s slot → KeptOf fscod slot (getD memos slot []) (getD exps slot [])
 
 module _ {fscod : ℕ} {s : Strategies} {memos : List (List ℕ)} {exps : List (List ℤ)} where
   pub none-done : KeptUnlessNew fscod s memos exps → KeptBefore fscod 0 s memos exps
@@ -102,7 +103,7 @@ module _ {fscod : ℕ} {s : Strategies} {memos : List (List ℕ)} {exps : List (
     one-done : (memo : List ℕ) → KeptOf fscod done memo (getD exps done []) → KeptBefore fscod (done + 1) s (set memos done memo) exps
     one-done memo k = record { seven = length-set memos done memo ∙ h .seven; each = λ slot p q. go slot p q (eqb slot done) refl }
       where
-        go : (slot : ℕ) → slot < 7 → (slot < done + 1) ⊎ (strategyOf s slot ≡ 0) → (b : Bool) → eqb slot done ≡ b
+        go : (slot : ℕ) → slot < 7 → (slot < done + 1) ⊎ ReusedBy s slot → (b : Bool) → eqb slot done ≡ b
             → KeptOf fscod slot (getD (set memos done memo) slot []) (getD exps slot [])
         go slot p q true t = rw (eqb-true slot done t, getD-set-same memos done memo [] (rw (h .seven) here)) k
         go slot p q false t =

@@ -1,20 +1,18 @@
 -- What was counted of a slot is kept with what it was counted from, besides its exponents: those in force. So it need not be counted again while
 -- all that is the same; where a block has new exponents it is forgotten. No part of the definition: `Kept` only says that what is kept is true.
-use mathlib.Core.Bool.{cond}
 use mathlib.Core.List.{List, [], _∷_}
 use mathlib.Core.Path.{_≡_}
 use Prim.Native.Nat.{ℕ, _<_}
-use lib.Dec.{eqb}
 use lib.IntN.{ℤ}
 use lib.ListN.{length, getD, replicate}
 use Rattle.tables.specs.Tables.{slowDecay, fastDecay, slowGain, fastGain, knee, floor}
 use Rattle.alloc.specs.Allocation.{snrOffset, allocation}
 use Rattle.alloc.specs.declared.Parameters.{Parameters}
-use Rattle.blocks.specs.Slots.{CPL, LFE}
 use Rattle.blocks.specs.declared.AllocState.{AllocState}
 use Rattle.blocks.specs.declared.Strategies.{Strategies}
 use Rattle.mantissas.specs.Counts.{noCounts, countedAll}
 use Rattle.mantissas.specs.Mantissas.{leakOf}
+use Rattle.mantissas.specs.Reused.{ReusedBy}
 use Rattle.mantissas.specs.declared.Counts.{Counts}
 use Rattle.mantissas.specs.declared.Part.{Part}
 
@@ -67,15 +65,7 @@ pub record Kept (fscod : ℕ) (memos : List (List ℕ)) (exps : List (List ℤ))
 abbrev pub nothing : List ℕ
 nothing = replicate 16 0
 
--- the exponent strategy of a slot: 0 reuses the exponents in force, and so does a slot that is not in use
-abbrev pub strategyOf : Strategies → (slot : ℕ) → ℕ
-strategyOf s slot = cond (eqb slot CPL) (s .cplexpstr) (cond (eqb slot LFE) (s .lfeexpstr) (getD (s .chexpstr) slot 0))
-
--- what a block does to the exponents: a slot that reuses them has them as they were
-abbrev pub Keeps : Strategies → (before after : List (List ℤ)) → Type 0
-Keeps s before after = (slot : ℕ) → slot < 7 → strategyOf s slot ≡ 0 → getD after slot [] ≡ getD before slot []
-
 -- seven memos, each of them true where the block has no new exponents
 pub record KeptUnlessNew (fscod : ℕ) (s : Strategies) (memos : List (List ℕ)) (exps : List (List ℤ)) : Type 0 where
   pub seven : length memos ≡ 7
-  pub each : (slot : ℕ) → slot < 7 → strategyOf s slot ≡ 0 → KeptOf fscod slot (getD memos slot []) (getD exps slot [])
+  pub each : (slot : ℕ) → slot < 7 → ReusedBy s slot → KeptOf fscod slot (getD memos slot []) (getD exps slot [])

@@ -24,7 +24,8 @@ ghost use Rattle.mantissas.specs.Mantissas as grammar;
 ghost use Rattle.mantissas.specs.Mantissas.{allPointers, partPointers};
 ghost use Rattle.mantissas.specs.Sound.{SoundSetting, SoundPart, SoundParts, listed};
 ghost use Rattle.mantissas.specs.Counts.{noCounts, countedAll, AtMost};
-ghost use Rattle.mantissas.specs.Kept.{nothing, strategyOf, memoOf, countsIn, SameBasis, Kept, KeptUnlessNew};
+ghost use Rattle.mantissas.specs.Kept.{nothing, memoOf, countsIn, SameBasis, Kept, KeptUnlessNew};
+ghost use Rattle.mantissas.specs.Reused.{strategyOf};
 
 // ---- forgotten
 

@@ -1,6 +1,7 @@
 -- `mantissas::memos::forget_new` meets its contract: of the slots before this one what is kept is true. Assumes nothing.
 use mathlib.Core.List.{List}
 use Prim.Native.Nat.{ℕ, _-_}
+use native.Mathlib.Omega.{arith}
 use lib.IntN.{ℤ}
 use borrow.Author.Needs.{needs}
 use Rattle.mantissas.specs.Kept.{KeptUnlessNew}
@@ -19,7 +20,7 @@ again : tie.Need-loop-again Inv-loop μ-loop
 again c fscod exps kept =
     let new = c .before .before in
     let test = new .before in
-    rw (c .forget-if .ensures) (slot-done (test .before .loop .inv fscod exps kept) (test .loop-test .taken) (new .is-new .result) (new .is-new .ensures))
+    rw (c .forget-if .ensures) (slot-done (test .before .loop .inv fscod exps kept) (omega (arith, test .loop-test .taken)) (new .is-new .result) (new .is-new .ensures))
 
 pub forget-new-spec : {M : Type 1} → statement M
 forget-new-spec =
@@ -36,4 +37,4 @@ forget-new-spec =
     (λ c. search needs)  -- add-slot
     (λ c. search needs)  -- loop-less
     again
-    (λ c fscod exps kept. all-done (c .loop-test .left) (c .before .loop .inv fscod exps kept)))  -- returns
+    (λ c fscod exps kept. all-done (omega (arith, c .loop-test .left)) (c .before .loop .inv fscod exps kept)))  -- returns

@@ -9,7 +9,7 @@ use lib.Seq.{getD-set-other}
 use borrow.Author.Tests.{ne-eqb}
 use Rattle.slots.specs.Slots.{CPL, LFE}
 use Rattle.slots.specs.declared.Strategies.{Strategies}
-use Rattle.exponents.specs.Reused.{Keeps, strategyOf, ReusedBy, ReusedBut}
+use Rattle.slots.specs.Reused.{Keeps, strategyOf, ReusedBy, ReusedBut}
 
 pub all : {Reused : ℕ → Type 0} {exps : List (List ℤ)} → Keeps Reused exps exps
 all = record { each = λ slot h. refl }

@@ -17,7 +17,7 @@ ghost use Rattle.syntax.specs.Grammar.{readIf};
 ghost use Rattle.syntax.specs.Reads.{Reads};
 ghost use Rattle.slots.specs.Sound.{SoundExps, SoundStrategies, SoundEnds};
 ghost use Rattle.exponents.specs.Exponents as grammar;
-ghost use Rattle.exponents.specs.Reused.{Keeps, ReusedBut, ReusedBy};
+ghost use Rattle.slots.specs.Reused.{Keeps, ReusedBut, ReusedBy};
 
 // Whether exponents of exactly these bins were sent.
 fn covers(cover: Cover, set: Set) -> bool

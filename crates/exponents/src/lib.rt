@@ -22,7 +22,7 @@ ghost use Prim.Native.Nat.{_≤_};
 ghost use Rattle.syntax.specs.Reads.{Reads};
 ghost use Rattle.slots.specs.Sound.{SoundExps, SoundCoupling, SoundStrategies, SoundEnds};
 ghost use Rattle.exponents.specs.Exponents as grammar;
-ghost use Rattle.exponents.specs.Reused.{Keeps, ReusedBy};
+ghost use Rattle.slots.specs.Reused.{Keeps, ReusedBy};
 
 // What says which sets a block has: its number, the channels and LFE of the frame, coupling and the strategies, and the channels' ends.
 pub struct Layout {

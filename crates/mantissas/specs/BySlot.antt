@@ -46,8 +46,8 @@ used slot (p ∷ ps) = eqb (p .slot) slot || used slot ps
 
 -- ---- without a walk: a slot takes the bits by which the total grows
 
-abbrev pub ownCounts : (fscod : ℕ) → AllocState → List (List ℤ) → (quiet : Bool) → Part → Counts
-ownCounts fscod st exps quiet p = countedAll noCounts (partPointers fscod st exps quiet p)
+abbrev pub ownCounts : (fscod : ℕ) → AllocState → List (List ℤ) → (isSilent : Bool) → Part → Counts
+ownCounts fscod st exps isSilent p = countedAll noCounts (partPointers fscod st exps isSilent p)
 
 unfoldable pub grownIn : (slot : ℕ) → (own : Part → Counts) → (before : Counts) → List Part → ℕ
 grownIn slot own before [] = 0
@@ -69,8 +69,8 @@ pub record BitsBySlot : Type 0 where
   -- what mantissas take after others follows from the counts of both
   pub grows : (before : Counts) (baps : List ℕ) → sum (widths (openAfter before) baps) ≡ widthOf (plus before (countedAll noCounts baps)) - widthOf before
   -- so a slot's bits follow from the counts of each slot by itself
-  pub counted : (slot fscod : ℕ) (st : AllocState) (exps : List (List ℤ)) (quiet : Bool) (ps : List Part)
-      → bitsIn slot ps (widths noneOpen (allPointers fscod st exps quiet ps)) ≡ grownIn slot (ownCounts fscod st exps quiet) noCounts ps
+  pub counted : (slot fscod : ℕ) (st : AllocState) (exps : List (List ℤ)) (isSilent : Bool) (ps : List Part)
+      → bitsIn slot ps (widths noneOpen (allPointers fscod st exps isSilent ps)) ≡ grownIn slot (ownCounts fscod st exps isSilent) noCounts ps
 
 -- ---- an example: two channels of three bins each; the group of ones and the first pair of fours are begun in channel 0, the second pair in
 -- channel 1

@@ -1,3 +1,3 @@
 pub mod Slots
-pub mod Forgotten
 pub mod Sound
+pub mod Reused

@@ -8,7 +8,7 @@ use Rattle.syntax.proofs.Sequence.{Turns, begins, turn, ends, then}
 use Rattle.slots.specs.Slots.{CPL, LFE}
 use Rattle.slots.specs.Sound.{SoundExps}
 use Rattle.exponents.specs.Exponents.{exponents, channelExponents}
-use Rattle.exponents.specs.Reused.{Keeps, ReusedBy}
+use Rattle.slots.specs.Reused.{Keeps, ReusedBy}
 use Rattle.exponents.proofs.Kept.{all, after, of-slot}
 use Rattle.exponents.proofs.exponents.Statement.{statement}
 use Rattle.exponents.proofs.exponents.Tie as tie

@@ -14,8 +14,7 @@ use Rattle.syntax.specs.declared.Role.the-variants.{Mantissas}
 use Rattle.syntax.specs.Grammar.{Grammar, done, _>>=_, _>>_, oneRoled, pieces, position, refuseIf}
 use Rattle.syntax.specs.Names as Name
 use Rattle.syntax.specs.Refusals.{noLeak}
-use Rattle.slots.specs.Delta.{noDeltas}
-use Rattle.slots.specs.Slots.{CPL, LFE}
+use Rattle.slots.specs.Slots.{CPL, LFE, noDeltas}
 use Rattle.slots.specs.declared.AllocState.{AllocState}
 use Rattle.slots.specs.declared.Coupling.{Coupling}
 use Rattle.slots.specs.declared.Deltas.{Deltas}

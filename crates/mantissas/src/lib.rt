@@ -17,12 +17,12 @@ use slots::AllocState;
 use slots::Coupling;
 use slots::Strategies;
 use syntax::Cursor;
-use syntax::Item;
-use syntax::NONE;
 use syntax::Role;
 use syntax::cursors::refuse_if;
+use syntax::items::one_roled;
 use syntax::names;
 use syntax::refusals::NO_LEAK;
+use syntax::rows::close;
 ghost use mathlib.Core.List.{List};
 ghost use Prim.Native.Nat.{ℕ};
 ghost use Rattle.syntax.specs.Reads.{Reads};
@@ -112,17 +112,8 @@ pub fn mantissas(
     }
     let start = known.at;
     let fscod = block.fscod;
-    let walked = walk(known, Setting { fscod, st, silent }, exps, memos, ps);
-    let cursor = syntax::close(
-        rows,
-        walked,
-        Item {
-            name: names::MANTISSAS,
-            role: Role::Mantissas,
-            block: block.blk,
-            index: NONE,
-        },
-        start,
-    );
+    let item = one_roled(block.blk, Role::Mantissas, names::MANTISSAS);
+    let walked = walk(known, item, Setting { fscod, st, silent }, exps, memos, ps);
+    let cursor = close(rows, walked, item, start);
     MantissasRead { start, cursor }
 }

@@ -37,30 +37,30 @@ refused c =
     let j = c .before .before in
     (λ s. then _ (judged (j .refuse-if .ensures) (judge (j .before))) (stopped (c .if2 .taken)), kept (forgot (j .before .before .before .before)))
 
-walks : (c : tie.After-walk) → let j = c .before .before .before .before in
+walks : (c : tie.After-walk) → let j = c .before .before .before .before .before in
     let a = start (j .before .before .before .before) .args in
     let ps = parts (a .block .nfchans) (a .block .lfeon) (a .block .coupling) (a .block .ends) in
-    c .walk .result ≡ walked (widths noneOpen (allPointers (a .block .fscod) (a .st) (a .exps .now) (silent (a .st .offsets) ps) ps)) (j .refuse-if .result)
+    c .walk .result ≡ walked (c .before .before .one-roled .result) (widths noneOpen (allPointers (a .block .fscod) (a .st) (a .exps .now) (silent (a .st .offsets) ps) ps)) (j .refuse-if .result)
 walks c =
-    let q = c .before .before .before .before .before .before .before in
+    let q = c .before .before .before .before .before .before .before .before in
     rw (← is-silent q, ← q .before .parts-in-use .ensures .0) (c .walk .ensures .0)
 
 walk-requires : tie.Need-walk-requires
 walk-requires c κs =
-    let p = c .before .before .before .before .before .before .before in
+    let p = c .before .before .before .before .before .before .before .before in
     let sound = start p .pre .0 in
-    ((c .before .if2 .left, record { fscod = sound .0 .fscod; st = sound .1 }, sound .2, p .parts-in-use .ensures .1), kept (forgot p))
+    ((c .before .before .if2 .left, record { fscod = sound .0 .fscod; st = sound .1 }, sound .2, p .parts-in-use .ensures .1), kept (forgot p))
 
 reads : tie.Need-returns-3
 unfolding mantissas
 reads c =
     let t = c .before in
     let w = t .before .before in
-    let j = w .before .before .before .before in (
+    let j = w .before .before .before .before .before in (
       λ s.
           then _ (judged (j .refuse-if .ensures) (judge (j .before)))
           (then _ standing
-          (then _ (closes (walks w) (t .close .ensures) (t .close .kept .0))
+          (then _ (rw (w .before .before .one-roled .ensures) at (closes {s = s} (walks w) (t .close .ensures) (t .close .kept .0)))
           finished)),
       w .walk .ensures .1,
     )
@@ -76,7 +76,8 @@ mantissas-spec =
     (λ c κs. search needs)  -- leak-missing-requires
     (λ c κs. search needs)  -- refuse-if-requires
     refused
+    (λ c κs. tt)  -- one-roled-requires
     walk-requires
-    (λ c κs. rw (c .before .walk .ensures .0) (walked-from _ _))  -- close-requires
+    (λ c κs. rw (c .before .walk .ensures .0) (walked-from _ _ _))  -- close-requires
     (λ c. search needs)  -- same-length
     reads)

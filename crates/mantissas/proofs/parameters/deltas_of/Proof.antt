@@ -6,7 +6,7 @@ use native.Mathlib.Omega.{arith}
 use lib.ListN.{length, length-map, getD}
 use borrow.Author.Needs.{needs}
 use borrow.Author.Tests.{eq-eqb, ne-eqb}
-use Rattle.slots.specs.Delta.{noDeltas}
+use Rattle.slots.specs.Slots.{noDeltas}
 use Rattle.slots.specs.Sound.{SoundSegments}
 use Rattle.slots.proofs.Entries.{every-replicate}
 use Rattle.mantissas.proofs.Between.{same-entry}

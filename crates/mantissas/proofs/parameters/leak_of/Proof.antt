@@ -4,7 +4,7 @@ use Prim.Native.Nat.{_+_, _*_}
 use native.Mathlib.Omega.{arith}
 use borrow.Author.Needs.{needs}
 use borrow.Author.Tests.{eq-eqb, ne-eqb}
-use Rattle.signed.specs.Bound.{below-lit, cast-32}
+use Rattle.signed.proofs.Bounds.{below-lit, cast-32}
 use Rattle.mantissas.proofs.parameters.leak_of.Statement.{statement}
 use Rattle.mantissas.proofs.parameters.leak_of.Tie as tie
 

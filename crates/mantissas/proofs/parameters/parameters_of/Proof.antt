@@ -1,7 +1,7 @@
 -- `mantissas::parameters::parameters_of` meets its contract: each table is looked up as the definition does, and what it gives is in range. Assumes nothing.
 use mathlib.Core.Path.{_∙_}
 use borrow.Author.Needs.{needs}
-use Rattle.signed.specs.Bound.{below-is, back-32}
+use Rattle.signed.proofs.Bounds.{below-is, back-32}
 use Rattle.alloc.proofs.Offset.{snr-below}
 use Rattle.mantissas.proofs.parameters.parameters_of.Statement.{statement}
 use Rattle.mantissas.proofs.parameters.parameters_of.Tie as tie

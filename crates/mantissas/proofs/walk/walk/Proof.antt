@@ -18,12 +18,12 @@ add-end c = omega (arith, c .width-of .ensures, c .before .before .count-parts .
 
 fits : tie.Need-returns
 fits c =
-    let t2 = c .before .before in
+    let t2 = c .before .before .before in
     let t1 = t2 .before .before in
     let s = t1 .before .before in
     let baps = allPointers (s .args .by .fscod) (s .args .by .st) (s .args .exps .now) (s .args .by .silent) (listed (s .args .ps)) in
     let total : t2 .width-of .result ≡ sum (widths noneOpen baps) = rw (t2 .width-of .ensures, t1 .count-parts .ensures .0) (whole-width baps) in
-    (rw (total, walked-fits (widths noneOpen baps) (s .args .c) (s .pre .0 .0) (omega (arith, total, c .if1 .taken))), t1 .count-parts .ensures .1 .1)
+    (rw (c .go-to .ensures, total, walked-fits (s .args .item) (widths noneOpen baps) (s .args .c) (s .pre .0 .0) (omega (arith, total, c .before .if1 .taken))), t1 .count-parts .ensures .1 .1)
 
 pub walk-spec : {M : Type 1} → statement M
 walk-spec =
@@ -34,7 +34,8 @@ walk-spec =
     (λ c κs. search needs)  -- width-of-requires
     add-end
     (λ c. search needs)  -- cast-if1
-    (λ c. search needs)  -- cast-t12
+    (λ c. search needs)  -- cast-go-to
+    (λ c κs. search needs)  -- go-to-requires
     fits
     (λ c κs. search needs)  -- walk-parts-requires
     (λ c. (c .walk-parts .ensures, c .before .before .before .before .before .count-parts .ensures .1 .1)))  -- returns-2

@@ -15,13 +15,13 @@ use Rattle.mantissas.proofs.walk.walk_bins.Statement.{statement}
 use Rattle.mantissas.proofs.walk.walk_bins.Tie as tie
 
 abbrev Inv-loop : tie.InvT-loop
-Inv-loop pointers start end bits counts₀ cursor₀ bin₀ counts cursor bin =
+Inv-loop item pointers start end bits counts₀ cursor₀ bin₀ counts cursor bin =
     (countedAll counts (between 0 pointers bin end) ≡ countedAll counts₀ (between 0 pointers start end))
-    × (walked (widths (openAfter counts) (between 0 pointers bin end)) cursor ≡ walked (widths (openAfter counts₀) (between 0 pointers start end)) cursor₀)
+    × (walked item (widths (openAfter counts) (between 0 pointers bin end)) cursor ≡ walked item (widths (openAfter counts₀) (between 0 pointers start end)) cursor₀)
     × AtMost (6 * 253 + (bin - start)) counts × (start ≤ bin)
 
 abbrev μ-loop : tie.MeasureT-loop
-μ-loop pointers start end bits counts₀ cursor₀ bin₀ counts cursor bin = end - bin
+μ-loop item pointers start end bits counts₀ cursor₀ bin₀ counts cursor bin = end - bin
 
 -- the pointer of this bin
 abbrev bap : tie.In-loop Inv-loop μ-loop → ℕ

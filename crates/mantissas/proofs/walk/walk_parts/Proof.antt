@@ -17,13 +17,13 @@ use Rattle.mantissas.proofs.walk.walk_parts.Statement.{statement}
 use Rattle.mantissas.proofs.walk.walk_parts.Tie as tie
 
 abbrev Inv-loop : tie.InvT-loop
-Inv-loop by exps ps counts₀ cursor₀ count i₀ counts cursor i =
-    (walked (widths (openAfter counts) (allPointers (by .fscod) (by .st) exps (by .silent) (between noPart (ps .list) i count))) cursor
-    ≡ walked (widths noneOpen (allPointers (by .fscod) (by .st) exps (by .silent) (listed ps))) cursor₀)
+Inv-loop item by exps ps counts₀ cursor₀ count i₀ counts cursor i =
+    (walked item (widths (openAfter counts) (allPointers (by .fscod) (by .st) exps (by .silent) (between noPart (ps .list) i count))) cursor
+    ≡ walked item (widths noneOpen (allPointers (by .fscod) (by .st) exps (by .silent) (listed ps))) cursor₀)
     × AtMost (253 * i) counts
 
 abbrev μ-loop : tie.MeasureT-loop
-μ-loop by exps ps counts₀ cursor₀ count i₀ counts cursor i = count - i
+μ-loop item by exps ps counts₀ cursor₀ count i₀ counts cursor i = count - i
 
 again : tie.Need-loop-again Inv-loop μ-loop
 again c =
@@ -32,16 +32,16 @@ again c =
     let test = p .before .before in
     let s = test .before .before in
     let at = test .before .loop in
-    let part = getD (s .args .t4 .list) (at .i) noPart in
-    let step = first-part (s .args .by .fscod) (s .args .by .st) (s .args .exps .now) (s .args .by .silent) (s .args .t4 .list) (test .loop-test .taken) in (
+    let part = getD (s .args .t5 .list) (at .i) noPart in
+    let step = first-part (s .args .by .fscod) (s .args .by .st) (s .args .exps .now) (s .args .by .silent) (s .args .t5 .list) (test .loop-test .taken) in (
       rw (w .walk-bins .ensures .0, w .walk-bins .ensures .1, p .part-pointers .ensures .0)
-          (sym (walked-append _ _ (at .cursor)) ∙ (rw (step, widths-append (at .counts)) at (at .inv .0))),
+          (sym (walked-append (s .args .item) _ _ (at .cursor)) ∙ (rw (step, widths-append (at .counts)) at (at .inv .0))),
       rw (w .walk-bins .ensures .0) (no-more (bins-at-most (at .counts) (p .part-pointers .result) (part .start) (part .end) (s .pre .2 .each (at .i) .end) (at .inv .1)) (omega arith)),
     )
 
 returns : tie.Need-returns Inv-loop μ-loop
 unfolding allPointers widths walked
-returns c = rw (between-none noPart (c .before .before .args .t4 .list) (c .loop-test .left)) at (c .before .loop .inv .0)
+returns c = rw (between-none noPart (c .before .before .args .t5 .list) (c .loop-test .left)) at (c .before .loop .inv .0)
 
 pub walk-parts-spec : {M : Type 1} → statement M
 walk-parts-spec =

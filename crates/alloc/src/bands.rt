@@ -28,7 +28,7 @@ fn as_level(x: u8) -> i32
 fn is_near(distance: i32) -> bool
     ensures { λ r. ⌜ r ≡ (leZ (pos 0) distance && ltZ distance (pos 512)) ⌝ }
 {
-    if 0 <= distance { distance < 512 } else { false }
+    0 <= distance && distance < 512
 }
 
 // A level and what one that is less by the distance adds to it.

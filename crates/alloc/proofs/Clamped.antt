@@ -22,8 +22,10 @@ clamped (pos n) = rw (le-ltb n 0 zero-le) (by (decLt 63 n))
     by (no h) = rw (le-ltb 63 n (omega arith)) (ap pos (omega arith))
 clamped (negsuc n) = refl
 
+-- so an address is below 64
+within : (z : ℤ) → Address (pos (clampZ z 63))
+within z = (record { le = le→leb 0 (clampZ z 63) zero-le }, record { le = le→leb (clampZ z 63) 63 (clamp-le z 63) })
+
 pub address-small : (psd mask : ℤ) → Address (pos (addressOf psd mask))
 unfolding addressOf
-address-small psd mask =
-    let most = clamp-le (shrZ (psd -ℤ mask) 32) 63 in
-    (record { le = le→leb 0 (clampZ (shrZ (psd -ℤ mask) 32) 63) zero-le }, record { le = le→leb (clampZ (shrZ (psd -ℤ mask) 32) 63) 63 most })
+address-small psd mask = within (shrZ (psd -ℤ mask) 32)

@@ -1,10 +1,12 @@
--- The sum of two levels, by their difference. Assumes nothing.
+-- Sums of levels: of two, by their difference; and sums of levels that are all less by a constant are less by that constant.
+-- Assumes nothing.
+use mathlib.Core.List.{List}
 use mathlib.Core.Path.{_≡_, refl, sym, ap, ap₂, _∙_, subst}
 use mathlib.Core.Bool.{Bool, true, false, not, cond, _&&_}
 use Prim.Native.Nat.{ℕ, zero, suc, _+_, _/_, _≤_, _<_, min, zero-le}
 use native.Mathlib.Omega.{arith}
 use lib.Dec.{T, leb, ltb, ltb→lt, leb·suc-suc}
-use lib.IntN.{ℤ, pos, negsuc, natAbs, _+ℤ_, _-ℤ_, +ℤ-idr}
+use lib.IntN.{ℤ, pos, negsuc, sucℤ, predℤ, negℤ, natAbs, suc-pred, negℤ-sucℤ, _+ℤ_, _-ℤ_, +ℤ-idr, +ℤ-sucℤ, +ℤ-predℤ, sucℤ-+ℤ, -ℤ-+ℤ-cancel}
 use lib.ListN.{getD}
 use lib.Signed.{ltZ, leZ, nonNeg}
 use borrow.Author.Tests.{lt-ltb, le-ltb, le-leb, ltb-true, ltb-false}
@@ -12,7 +14,8 @@ use Rattle.signed.specs.Level.{maxZ}
 use Rattle.tables.specs.Tables.{logAdd}
 use Rattle.tables.proofs.Rule.{log-add-rule}
 use store.Enc.{and-r}
-use Rattle.alloc.specs.Allocation.{logadd}
+use Rattle.alloc.specs.Allocation.{at, logadd, psdOf, psdAt, bandSum}
+use Rattle.alloc.specs.Stages.{relative, relativeAt}
 
 -- ---- the larger of two, by the sign of their difference
 
@@ -81,3 +84,40 @@ far-below-test (negsuc n) t e = omega (arith, ltb-false n 511 e)
 pub opposite : (z : ℤ) → T (not (nonNeg z)) → pos 0 -ℤ z ≡ pos (natAbs z)
 opposite (pos n) t = absurd t
 opposite (negsuc n) t = ap pos (omega arith)
+
+-- ---- levels that are all less by a constant
+
+sub-suc : (a b : ℤ) → sucℤ a -ℤ sucℤ b ≡ a -ℤ b
+sub-suc a b =
+    ap (λ (k : ℤ). sucℤ a +ℤ k) (negℤ-sucℤ b) ∙ sucℤ-+ℤ a (predℤ (negℤ b)) ∙ ap sucℤ (+ℤ-predℤ a (negℤ b)) ∙ suc-pred (a +ℤ negℤ b)
+
+max-suc : (a b : ℤ) → maxZ (sucℤ a) (sucℤ b) ≡ sucℤ (maxZ a b)
+max-suc a b =
+    ap (λ (t : Bool). cond t (sucℤ b) (sucℤ a)) (sym (less-by (sucℤ a) (sucℤ b)) ∙ ap (λ (z : ℤ). ltZ z (pos 0)) (sub-suc a b) ∙ less-by a b)
+    ∙ either (ltZ a b)
+  where
+    either : (t : Bool) → cond t (sucℤ b) (sucℤ a) ≡ sucℤ (cond t b a)
+    either true = refl
+    either false = refl
+
+logadd-suc : (a b : ℤ) → logadd (sucℤ a) (sucℤ b) ≡ sucℤ (logadd a b)
+unfolding logadd
+logadd-suc a b =
+    ap₂ (λ (m d : ℤ). m +ℤ pos (getD logAdd (min (natAbs d / 2) 255) 0)) (max-suc a b) (sub-suc a b)
+    ∙ sucℤ-+ℤ (maxZ a b) (pos (getD logAdd (min (natAbs (a -ℤ b) / 2) 255) 0))
+
+logadd-more : (n : ℕ) (a b : ℤ) → logadd (a +ℤ pos n) (b +ℤ pos n) ≡ logadd a b +ℤ pos n
+logadd-more zero a b = rw (+ℤ-idr a, +ℤ-idr b, +ℤ-idr (logadd a b))
+logadd-more (suc n) a b =
+    ap₂ logadd (+ℤ-sucℤ a (pos n)) (+ℤ-sucℤ b (pos n)) ∙ logadd-suc (a +ℤ pos n) (b +ℤ pos n) ∙ ap sucℤ (logadd-more n a b) ∙ sym (+ℤ-sucℤ (logadd a b) (pos n))
+
+level-more : (e : ℤ) → psdOf e ≡ relative e +ℤ pos 3072
+unfolding relative
+level-more e = sym (-ℤ-+ℤ-cancel (psdOf e) (pos 3072))
+
+pub sum-more : (exponents : List ℤ) (first n : ℕ) → bandSum (relativeAt exponents) first n +ℤ pos 3072 ≡ bandSum (psdAt exponents) first n
+unfolding bandSum
+sum-more exponents first zero = sym (level-more (at exponents first))
+sum-more exponents first (suc n) =
+    sym (logadd-more 3072 (bandSum (relativeAt exponents) first n) (relativeAt exponents (first + suc n)))
+    ∙ ap₂ logadd (sum-more exponents first n) (sym (level-more (at exponents (first + suc n))))

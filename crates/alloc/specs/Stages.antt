@@ -1,12 +1,12 @@
 -- The stages of the allocation under names of their own. No part of the definition: contracts cite it. Assumes nothing.
 use mathlib.Core.List.{List}
 use Prim.Native.Nat.{ℕ, _+_, _*_}
-use lib.IntN.{ℤ, pos, natAbs, _+ℤ_}
+use lib.IntN.{ℤ, pos, natAbs, _+ℤ_, _-ℤ_}
 use lib.ListN.{getD}
 use lib.Signed.{_≤ℤ_}
 use Rattle.signed.specs.Level.{maxZ}
 use Rattle.tables.specs.Tables.{hearing, bap}
-use Rattle.alloc.specs.Allocation.{at, overKnee, threshold, mappedPsd, integratedPsd, excitation, maskingCurve, deltaApplied, thresholds}
+use Rattle.alloc.specs.Allocation.{at, psdOf, overKnee, threshold, mappedPsd, integratedPsd, excitation, maskingCurve, deltaApplied, thresholds}
 use Rattle.alloc.specs.declared.Parameters.{Parameters}
 
 -- what 6.2.2.2 to 6.2.2.7 leave in the mask
@@ -25,6 +25,13 @@ Address z = (pos 0 ≤ℤ z) × (z ≤ℤ pos 63)
 -- the pointer at a bin's address
 abbrev pub bapAt : List ℤ → ℕ → ℕ
 bapAt addresses bin = getD bap (natAbs (at addresses bin)) 0
+
+-- a bin's psd less that of exponent 0: sums of these are the sums of psd less 3072 (`proofs/Sum`), and take fewer instructions
+unfoldable pub relative : ℤ → ℤ
+relative exponent = psdOf exponent -ℤ pos 3072
+
+abbrev pub relativeAt : List ℤ → ℕ → ℤ
+relativeAt exponents bin = relative (at exponents bin)
 
 -- the threshold of a band
 unfoldable pub thresholdAt : (excite here : ℤ) (knee quiet : ℕ) (delta snr floor : ℤ) → ℤ

@@ -1,5 +1,6 @@
 // 6.2.2.3: the psd of the bins of a band are added up.
 use crate::psd::level;
+use crate::psd::relative;
 use crate::wide;
 ghost use mathlib.Core.Bool.{_&&_};
 ghost use mathlib.Core.Path.{_≡_};
@@ -13,6 +14,7 @@ ghost use Rattle.tables.specs.Tables.{bandEnd, logAdd};
 ghost use Rattle.alloc.specs.Allocation.{logadd, psdAt, bandSum, startOf, endOf, bandPsd};
 ghost use Rattle.alloc.specs.Sound.{Exponents};
 ghost use Rattle.alloc.specs.Fills.{Fills};
+ghost use Rattle.alloc.specs.Stages.{relativeAt};
 ghost use Rattle.alloc.specs.Band.{InBand};
 
 // A byte as a level, with its bound.
@@ -26,7 +28,7 @@ fn as_level(x: u8) -> i32
 fn is_near(distance: i32) -> bool
     ensures { λ r. ⌜ r ≡ (leZ (pos 0) distance && ltZ distance (pos 512)) ⌝ }
 {
-    if 0 <= distance { distance < 512 } else { false }
+    0 <= distance && distance < 512
 }
 
 // A level and what one that is less by the distance adds to it.
@@ -58,15 +60,15 @@ fn logadd(adds: &[u8; 256], a: i32, b: i32) -> i32
 // The sum and one bin more.
 fn plus(adds: &[u8; 256], exponents: &[i16; 256], bin: usize, sum: i32) -> i32
     requires { ⌜ (now adds ≡ logAdd) × Exponents (now exponents) × (bin < 256) × Below 20 sum ⌝ }
-    ensures { λ r. ⌜ r ≡ logadd sum (psdAt (now (exponents .entry)) bin) ⌝ }
+    ensures { λ r. ⌜ r ≡ logadd sum (relativeAt (now (exponents .entry)) bin) ⌝ }
 {
-    logadd(adds, sum, level(exponents[bin]))
+    logadd(adds, sum, relative(exponents[bin]))
 }
 
 // The sum and three bins more: the bands from 28 on are threes, so that this saves most turns of the loop.
 fn plus_three(adds: &[u8; 256], exponents: &[i16; 256], bin: usize, sum: i32) -> i32
     requires { ⌜ (now adds ≡ logAdd) × Exponents (now exponents) × (bin + 2 < 256) × Below 17 sum ⌝ }
-    ensures { λ r. ⌜ r ≡ logadd (logadd (logadd sum (psdAt (now (exponents .entry)) bin)) (psdAt (now (exponents .entry)) (bin + 1))) (psdAt (now (exponents .entry)) (bin + 2)) ⌝ }
+    ensures { λ r. ⌜ r ≡ logadd (logadd (logadd sum (relativeAt (now (exponents .entry)) bin)) (relativeAt (now (exponents .entry)) (bin + 1))) (relativeAt (now (exponents .entry)) (bin + 2)) ⌝ }
 {
     let one = plus(adds, exponents, bin, sum);
     let two = plus(adds, exponents, bin + 1, one);
@@ -78,7 +80,7 @@ fn sum_levels(adds: &[u8; 256], exponents: &[i16; 256], first: usize, last: usiz
     requires { ⌜ (now adds ≡ logAdd) × Exponents (now exponents) × (first < last) × (last ≤ 256) ⌝ }
     ensures { λ r. ⌜ r ≡ bandSum (psdAt (now (exponents .entry))) first (last - 1 - first) ⌝ }
 {
-    let mut sum = level(exponents[first]);
+    let mut sum = relative(exponents[first]);
     let mut bin = first + 1;
     while bin + 3 <= last {
         sum = plus_three(adds, exponents, bin, sum);
@@ -88,7 +90,7 @@ fn sum_levels(adds: &[u8; 256], exponents: &[i16; 256], first: usize, last: usiz
         sum = plus(adds, exponents, bin, sum);
         bin += 1;
     }
-    sum
+    sum + 3072
 }
 
 // Table 6.13: the band of a bin, by the ranges of Table 6.12: bands of 1, 3, 6, 12 and 24 bins. Bin 252 is in band 49, the last one. No bin

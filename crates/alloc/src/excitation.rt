@@ -73,7 +73,7 @@ fn fall_leak(g: Gains, here: i32, low: i32, less: i32, l: Leak) -> Leak
 fn lfe_last(count: usize, band: usize) -> bool
     ensures { λ r. ⌜ r ≡ lfeLast count band ⌝ }
 {
-    if count == 7 { band == 6 } else { false }
+    count == 7 && band == 6
 }
 
 // The compensation after a band.
@@ -105,7 +105,7 @@ fn is_rise(bands: &[i32; 50], count: usize, band: usize) -> bool
 fn starts_anew(band: usize, risen: bool) -> bool
     ensures { λ r. ⌜ r ≡ startsAnew band risen ⌝ }
 {
-    if band < 7 { !risen } else { false }
+    band < 7 && !risen
 }
 
 // One band. From band 22 on there is no compensation, and the leaks merely fall.

@@ -10,24 +10,25 @@ use mir.Val.{toZ, ofZ}
 use mir.ValLaws.{toZ-ofZ}
 use Rattle.signed.specs.Bound.{Below}
 use Rattle.signed.proofs.Bounds.{back-32, below-is, below-more, below-read}
-use Rattle.alloc.specs.Allocation.{logadd, psdAt}
-use Rattle.alloc.proofs.Bounded.{logadd-below, level-below}
+use Rattle.alloc.specs.Allocation.{logadd}
+use Rattle.alloc.specs.Stages.{relativeAt}
+use Rattle.alloc.proofs.Bounded.{logadd-below, relative-below}
 use Rattle.alloc.proofs.bands.plus_three.Statement.{statement}
 use Rattle.alloc.proofs.bands.plus_three.Tie as tie
 
 -- the sums of the definition
 module _ (s : tie.Start) where
   abbrev bin : ℕ → ℤ
-  bin n = psdAt (s .args .exponents .now) (s .args .bin + n)
+  bin n = relativeAt (s .args .exponents .now) (s .args .bin + n)
 
   bin-small : {k : ℕ} (n : ℕ) → T (leb 13 k) → Below k (bin n)
-  bin-small n t = below-more (level-below (s .args .exponents .now) (s .pre .1) (s .args .bin + n)) t
+  bin-small n t = below-more (relative-below (s .args .exponents .now) (s .pre .1) (s .args .bin + n)) t
 
   abbrev first : ℤ
-  first = logadd (s .args .sum) (psdAt (s .args .exponents .now) (s .args .bin))
+  first = logadd (s .args .sum) (relativeAt (s .args .exponents .now) (s .args .bin))
 
   first-small : Below 18 first
-  first-small = logadd-below {k = 17} (s .pre .3) (below-more (level-below (s .args .exponents .now) (s .pre .1) (s .args .bin)) tt) tt
+  first-small = logadd-below {k = 17} (s .pre .3) (below-more (relative-below (s .args .exponents .now) (s .pre .1) (s .args .bin)) tt) tt
 
 first-is : (c : tie.After-plus) → toZ w32 (ofZ w32 (c .plus .result)) ≡ first (c .before)
 first-is c = back-32 _ (c .plus .ok) ∙ c .plus .ensures ∙ rw (toZ-ofZ w32 (c .before .args .sum) (c .before .fits .sum))

@@ -1,4 +1,4 @@
-//! bench CALLS KIND (none|rust|port|tests): makes CALLS sets, always the same ones, and gives them to one side, or to none, so that
+//! alloc_bench CALLS KIND (none|rust|port|tests): makes CALLS sets, always the same ones, and gives them to one side, or to none, so that
 //! its instructions can be counted. `tests` is the port with a call that it refuses after all of its tests.
 
 use compare_alloc::{by_judge, by_port, draw, BINS};

@@ -1,5 +1,5 @@
-//! against SEED SETS: random parameter sets from SEED on, each given to the port and to the judge, and every pointer compared; of a set that
-//! does not fit, that the port refuses it and writes nothing. Prints what was compared; status 1 on a difference.
+//! alloc_against SEED SETS: random parameter sets from SEED on, each given to the port and to the judge, and every pointer compared; of a set
+//! that does not fit, that the port refuses it and writes nothing. Prints what was compared; status 1 on a difference.
 
 use compare_alloc::{by_judge, by_port, draw, fits, BINS};
 use judge::rng::Rng;
@@ -13,7 +13,7 @@ fn main() {
         .map(|a| a.parse().expect("SEED and SETS are numbers"))
         .collect();
     let &[seed, sets] = &args[..] else {
-        eprintln!("usage: against SEED SETS");
+        eprintln!("usage: alloc_against SEED SETS");
         std::process::exit(2);
     };
     let mut rng = Rng(seed);

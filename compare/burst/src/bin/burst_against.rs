@@ -1,6 +1,6 @@
-//! against SEED SIZE: runs the generator of calls about bursts and holds the port's answer, every number of its room and every byte of its
-//! output against the judge's. Prints what was compared; status 1 on a difference, or where a refusal or a case to be compared by name was
-//! not met.
+//! burst_against SEED SIZE: runs the generator of calls about bursts and holds the port's answer, every number of its room and every byte of
+//! its output against the judge's. Prints what was compared; status 1 on a difference, or where a refusal or a case to be compared by name
+//! was not met.
 
 use compare_burst::layout::BurstAnswer;
 use compare_burst::raw;
@@ -42,7 +42,7 @@ fn main() {
         .map(|a| a.parse().expect("SEED and SIZE are numbers"))
         .collect();
     let [seed, size] = args[..] else {
-        eprintln!("usage: against SEED SIZE");
+        eprintln!("usage: burst_against SEED SIZE");
         std::process::exit(2);
     };
     let (mut differences, mut numbers, mut bytes) = (0, 0, 0);

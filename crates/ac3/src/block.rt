@@ -1,27 +1,39 @@
 // audblk (4.3.3): the sections of a block in the order of the syntax table.
 use crate::State;
 use crate::Tally;
+use channels::Bandwidths;
 use channels::coordinates::coupling_coordinates;
 use channels::coupling::coupling_strategy;
 use channels::ends::bandwidths;
 use channels::ends::channel_ends;
 use channels::rematrixing::rematrixing;
 use channels::strategies::exponent_strategies;
+use exponents::Layout;
 use exponents::exponents;
 use header::Header;
 use header::programmes;
+use mantissas::Block;
 use mantissas::mantissas;
 use parameters::curve::curve;
 use parameters::delta::deltas;
 use parameters::leak::coupling_leak;
 use parameters::offsets::offsets;
 use slots::AllocState;
+use slots::Coupling;
+use slots::Cover;
+use slots::Strategies;
 use syntax::Cursor;
 use syntax::Role;
 use syntax::elements::and_not;
 use syntax::elements::flags;
-use syntax::elements::roled;
+use syntax::elements::note_if;
+use syntax::items::one_roled;
 use syntax::names::*;
+use syntax::readers::flag;
+use syntax::readers::pass;
+use syntax::readers::take;
+use tables::nfchans;
+ghost use mathlib.Core.Bool.{cond, _&&_};
 ghost use mathlib.Core.List.{List};
 ghost use mathlib.Core.Path.{_≡_};
 ghost use Prim.Native.Nat.{ℕ, _+_, _<_, _≤_};
@@ -29,7 +41,10 @@ ghost use Rattle.syntax.specs.Grammar as syntax;
 ghost use Rattle.syntax.specs.Reads.{Reads};
 ghost use Rattle.header.specs.Header as header;
 ghost use Rattle.header.specs.Sound.{SoundHeader};
-ghost use Rattle.slots.specs.Sound.{SoundAlloc, SoundExps};
+ghost use lib.Dec.{eqb};
+ghost use Rattle.slots.specs.Sound.{SoundAlloc, SoundCoupling, SoundEnds, SoundExps};
+ghost use Rattle.slots.specs.Reused.{Keeps, ReusedBy};
+ghost use Rattle.channels.specs.Sound.{SoundBands, SoundBandwidths};
 ghost use Rattle.mantissas.specs.Kept.{Kept};
 ghost use Rattle.ac3.specs.AudioBlock as grammar;
 ghost use Rattle.ac3.specs.Sound.{SoundState};
@@ -39,10 +54,10 @@ fn dynamic_range(s: &[u8], rows: &mut [i32], c: Cursor, blk: u8, p: u8) -> Curso
     requires { ⌜ p < 2 ⌝ }
     ensures { λ r. ⌜ Reads (grammar.dynamicRange blk p) (now (s .entry)) c (now (rows .entry)) tt r (now (rows .exit)) ⌝ }
 {
-    let exists = roled(blk, Role::DynrngExists(p), DYNRNGE + 2 * p);
-    let dynrnge = syntax::flag(s, rows, c, exists);
-    let dynrng = roled(blk, Role::Dynrng(p), DYNRNG + 2 * p);
-    syntax::note_when(s, rows, dynrnge.cursor, dynrnge.set, dynrng, 8)
+    let exists = one_roled(blk, Role::DynrngExists(p), DYNRNGE + 2 * p);
+    let dynrnge = flag(s, rows, c, exists);
+    let dynrng = one_roled(blk, Role::Dynrng(p), DYNRNG + 2 * p);
+    note_if(s, rows, dynrnge.cursor, dynrnge.set, dynrng, 8)
 }
 
 fn dynamic_ranges(s: &[u8], rows: &mut [i32], c: Cursor, blk: u8, acmod: u8) -> Cursor
@@ -59,11 +74,17 @@ fn dynamic_ranges(s: &[u8], rows: &mut [i32], c: Cursor, blk: u8, acmod: u8) -> 
 fn skip_field(s: &[u8], rows: &mut [i32], c: Cursor, blk: u8) -> Cursor
     ensures { λ r. ⌜ Reads (grammar.skipField blk) (now (s .entry)) c (now (rows .entry)) tt r (now (rows .exit)) ⌝ }
 {
-    let skiple = syntax::flag(s, rows, c, roled(blk, Role::Skiple, SKIPLE));
+    let skiple = flag(s, rows, c, one_roled(blk, Role::Skiple, SKIPLE));
     if skiple.set {
-        let skipl = syntax::take(s, rows, skiple.cursor, roled(blk, Role::Skipl, SKIPL), 9);
-        let skipfld = roled(blk, Role::Skipfld, SKIPFLD);
-        syntax::pass(rows, skipl.cursor, skipfld, 8 * skipl.value as u16)
+        let skipl = take(
+            s,
+            rows,
+            skiple.cursor,
+            one_roled(blk, Role::Skipl, SKIPL),
+            9,
+        );
+        let skipfld = one_roled(blk, Role::Skipfld, SKIPFLD);
+        pass(rows, skipl.cursor, skipfld, 8 * skipl.value as u16)
     } else {
         skiple.cursor
     }
@@ -93,7 +114,11 @@ fn one_more_if(count: u8, more: bool) -> u8
 fn sent_so_far(cplinu: bool, sent: bool, t: Tally) -> bool
     ensures { λ r. ⌜ r ≡ cond (cplinu && eqb (t .coupled) 0) sent (t .coordinates) ⌝ }
 {
-    if cplinu && t.coupled == 0 { sent } else { t.coordinates }
+    if cplinu && t.coupled == 0 {
+        sent
+    } else {
+        t.coordinates
+    }
 }
 
 fn counted(blk: u8, start: u16, mantissas: u16, cplinu: bool, sent: bool, t: Tally) -> Tally

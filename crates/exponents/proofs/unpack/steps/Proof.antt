@@ -7,7 +7,7 @@ use native.Mathlib.Nat.{not-suc-le-zero, le-of-suc-le-suc, add-zero, zero-add, a
 use lib.Dec.{T, eqb}
 use lib.ListN.{length, getD}
 use borrow.Author.Tests.{eqb-true}
-use Rattle.tables.proofs.Rules.{both-left, both-right}
+use store.Enc.{and-l, and-r}
 use Rattle.exponents.specs.Bytes.{Steps}
 use Rattle.exponents.proofs.unpack.steps.Statement.{statement}
 use Rattle.exponents.proofs.unpack.steps.Tie as tie
@@ -24,8 +24,8 @@ true-of true t = λ i. true
 
 right-at : (first : ℕ) (l : List ℕ) → T (right first l) → (k : ℕ) → k < length l → getD l k 0 ≡ entry (first + k)
 right-at first [] t k h = absurd (not-suc-le-zero h)
-right-at first (d ∷ ds) t zero h = rw (add-zero first) (eqb-true d (entry first) (true-of (eqb d (entry first)) (both-left (eqb d (entry first)) (right (suc first) ds) t)))
-right-at first (d ∷ ds) t (suc k) h = rw (add-suc first k, ← suc-add first k) (right-at (suc first) ds (both-right (eqb d (entry first)) (right (suc first) ds) t) k (le-of-suc-le-suc h))
+right-at first (d ∷ ds) t zero h = rw (add-zero first) (eqb-true d (entry first) (true-of (eqb d (entry first)) (and-l (eqb d (entry first)) (right (suc first) ds) t)))
+right-at first (d ∷ ds) t (suc k) h = rw (add-suc first k, ← suc-add first k) (right-at (suc first) ds (and-r (eqb d (entry first)) (right (suc first) ds) t) k (le-of-suc-le-suc h))
 
 all-right : (l : List ℕ) → T (right 0 l) → length l ≡ 125 → Steps l
 all-right l t n = record { each = λ group h. right-at 0 l t group (rw n h) ∙ ap entry (zero-add group) }

@@ -16,6 +16,7 @@ use Rattle.bits.proofs.Determine.{value-of-bits}
 use Rattle.bits.proofs.Window.{value-lt}
 use Rattle.tables.specs.Tables.{frameBytes}
 use Rattle.syntax.specs.declared.Refusal.{Refusal}
+use Rattle.syntax.specs.Refusals.{notSync, noFrameSize}
 use Rattle.syntax.specs.Grammar.{Grammar, done, refuse, field, free, span, walk, frame, here, _>>=_, refuseIf}
 use Rattle.syntax.specs.Later.{Past, TooShort, sized, resized}
 use Rattle.syntax.specs.Place.{Place, finish}
@@ -199,8 +200,8 @@ asks-sync : Asks (λ n (x : ℕ × ℕ). Enough n (x .1)) syncinfo
 unfolding syncinfo _>>=_
 asks-sync = (
   inl (λ x. six (x .1)),
-  λ syncword _. past _ (not (eqb syncword 0x0B77)) 2 _
-      (λ fscod _ code _. past _ (eqb (frameBytes fscod code) 0) 3 _ (inr (own (frameBytes fscod code)), tt)),
+  λ syncword _. past _ (not (eqb syncword 0x0B77)) notSync _
+      (λ fscod _ code _. past _ (eqb (frameBytes fscod code) 0) noFrameSize _ (inr (own (frameBytes fscod code)), tt)),
 )
 
 module _ (n : ℕ) where

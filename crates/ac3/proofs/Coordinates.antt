@@ -21,7 +21,7 @@ use Rattle.ac3.specs.declared.Answer.{Answer}
 inward : {A B C : Type 0} (g : Grammar A) (k : A → Grammar B) (m : B → Grammar C) → ((g >>= k) >>= m) ≡ (g >>= λ a. k a >>= m)
 unfolding _>>=_
 inward (done a) k m = refl
-inward (refuse n) k m = refl
+inward (refuse x) k m = refl
 inward (field i w j) k m = λ t. field i w (λ v. inward (j v) k m t)
 inward (free i w j) k m = ap (free i w) (inward j k m)
 inward (span i w j) k m = ap (span i w) (inward j k m)
@@ -62,9 +62,8 @@ unflagged = flaggedCarry false
 one-block : (h : Header) (blk : ℕ) (c : Carry) → through unflagged (audioBlock h blk c) ≡ through unflagged (audioBlock h blk (unflagged c))
 unfolding audioBlock
 one-block h blk c =
-    under _ _ _ _ λ start. under _ _ _ _ λ _. under _ _ _ _ λ _. under _ _ _ _ λ _. under _ _ _ _ λ coupling. under _ _ _ _ λ sent. under _ _ _ _ λ _.
-    under _ _ _ _ λ strategies. under _ _ _ _ λ widths. under _ _ _ _ λ ends. under _ _ _ _ λ e. under _ _ _ _ λ alloc. under _ _ _ _ λ _. under _ _ _ _ λ mantissas.
-    finished _ refl
+    under _ _ _ _ λ start. under _ _ _ _ λ _. under _ _ _ _ λ coupled. under _ _ _ _ λ exponented. under _ _ _ _ λ alloc. under _ _ _ _ λ _.
+    under _ _ _ _ λ mantissas. finished _ refl
 
 module _ (h : Header) where
   blocks-unflagged : (n i : ℕ) (c : Carry) → through unflagged (turns i n c (audioBlock h)) ≡ through unflagged (turns i n (unflagged c) (audioBlock h))
@@ -96,7 +95,7 @@ same-frame rule = under unmarked _ _ _ λ h. alike unmarked unflagged _ _ _ (blo
 seen : (o : Outcome Audio) → let t = answered (andThen o (λ a p. got (unmarked a) p)) in (flaggedAnswer false (answered o .0) ≡ flaggedAnswer false (t .0)) × (answered o .1 ≡ t .1)
 unfolding answered andThen
 seen (got a p) = (refl, refl)
-seen (no n p) = (refl, refl)
+seen (no x p) = (refl, refl)
 
 module _ (s : List ℕ) (p : Place) where
   outcome : (g : Grammar Audio) → exec (through unmarked g) s p ≡ andThen (exec g s p) (λ a q. got (unmarked a) q)

@@ -8,7 +8,7 @@ use lib.ListN.{replicate}
 use Rattle.bits.specs.Bits.{value}
 use Rattle.tables.specs.Tables.{frameBytes}
 use Rattle.alloc.specs.Allocation.{logadd, snrOffset, bandOf, deltaOf}
-use Rattle.syntax.specs.Refusals.{tooShort}
+use Rattle.syntax.specs.Refusals.{judged, tooShort}
 use Rattle.syntax.specs.Grammar.{_>>=_, _>>_, plain, framed}
 use Rattle.syntax.specs.Run.{sum, End, reached, refused, parse}
 use Rattle.slots.specs.Slots.{subBands, firstCoupled, pastCoupled, pastChannel}
@@ -47,14 +47,14 @@ ValuesOnEachSide =
     × (value (0x0B ∷ 0x77 ∷ []) 5 7 ≡ 55)
     -- (c) groups 124, 62 and 125: their steps, and what they make after an exponent of 10
     × (steps 124 ∷ steps 62 ∷ [] ≡ (pos 2 ∷ pos 2 ∷ pos 2 ∷ []) ∷ (pos 0 ∷ pos 0 ∷ pos 0 ∷ []) ∷ [])
-    × (grouped 124 ∷ grouped 62 ∷ grouped 125 ∷ [] ≡ unpacked 12 14 16 ∷ unpacked 10 10 10 ∷ refused 16 ∷ [])
+    × (grouped 124 ∷ grouped 62 ∷ grouped 125 ∷ [] ≡ unpacked 12 14 16 ∷ unpacked 10 10 10 ∷ refused (judged 16) ∷ [])
     -- (d) the end for chbwcod 1, and the groups of D15, D25 and D45
     × (pastChannel 1 ∷ groupCount 0 1 0 76 ∷ groupCount 0 2 0 76 ∷ groupCount 0 3 0 76 ∷ [] ≡ 76 ∷ 25 ∷ 13 ∷ 7 ∷ [])
     -- (e) bands of bins
     × (map bandOf (27 ∷ 28 ∷ 30 ∷ 31 ∷ 252 ∷ []) ≡ 27 ∷ 28 ∷ 28 ∷ 29 ∷ 49 ∷ [])
     -- (f) cplbegf 5 and cplendf 3: sub-bands, first bin, first bin past; cplbegf 6 is refused with 9
     × (subBands 5 3 ∷ firstCoupled 5 ∷ pastCoupled 3 ∷ [] ≡ 1 ∷ 97 ∷ 109 ∷ [])
-    × (strategy 5 3 ∷ strategy 6 3 ∷ [] ≡ reached (coupledFrom 5 3) ∷ refused 9 ∷ [])
+    × (strategy 5 3 ∷ strategy 6 3 ∷ [] ≡ reached (coupledFrom 5 3) ∷ refused (judged 9) ∷ [])
     -- (g) SNR offsets
     × (snrOffset 0 0 ∷ snrOffset 15 0 ∷ snrOffset 63 15 ∷ [] ≡ negsuc 959 ∷ pos 0 ∷ pos 3132 ∷ [])
     -- (h) deltas

@@ -77,6 +77,17 @@ offered rows count run =
     let n = fitting (length rows) count (length run) in
     (n, filled (fieldAt rows) n run)
 
+-- the numbers of the rows of records, one row after another
+unfoldable pub rowsOf : List Field → List ℤ
+rowsOf [] = []
+rowsOf (f ∷ fs) = rowOf f ++ rowsOf fs
+
+-- as many rows as were written, and the run after that: the rows of the first records, and the rest as it was
+abbrev pub rowed : (fields : List Field) (count : ℕ) (rows : List ℤ) → ℕ × List ℤ
+rowed fields count rows =
+    let n = fitting (length rows) count (length fields) in
+    (n, rowsOf (take n fields) ++ drop (n * 8) rows)
+
 -- ---- a frame's rows as records
 
 -- the record of a row of the definition's list

@@ -9,8 +9,9 @@ ghost use mathlib.Core.Path.{_≡_};
 ghost use Prim.Native.Nat.{_≤_, _+_, _*_, min, _/_};
 ghost use lib.ListN.{length, replicate};
 ghost use lib.IntN.{pos};
+ghost use lib.Seq.{sets};
 ghost use Rattle.ac3.specs.RowBound.{mostRows};
-ghost use Rattle.fields.specs.Fields.{programmeOf, roleOf, fieldOf, rowOf, fieldAt, filled, fitting, offered, answerWithin, parsed};
+ghost use Rattle.fields.specs.Fields.{programmeOf, roleOf, fieldOf, rowOf, rowAt, fieldAt, filled, fitting, offered, rowed, answerWithin, parsed};
 
 // The numbers of the most rows that a frame can have.
 const NUMBERS: usize = MOST_ROWS * 8;
@@ -144,6 +145,22 @@ fn parse_within(n: usize, capture: &[u8], place: usize, rows: &mut [i32]) -> Ans
     ac3::parse(capture, place, &mut rows[..room * 8])
 }
 
+// Row i of a run of rows is written over.
+fn put_row(rows: &mut [i32], i: usize, row: [i32; 8])
+    requires { ⌜ i * 8 + 8 ≤ length (now rows) ⌝ }
+    ensures { λ _. ⌜ now (rows .exit) ≡ sets (now (rows .entry)) (i * 8) (rowAt row 0) ⌝ }
+{
+    let at = i * 8;
+    rows[at] = row[0];
+    rows[at + 1] = row[1];
+    rows[at + 2] = row[2];
+    rows[at + 3] = row[3];
+    rows[at + 4] = row[4];
+    rows[at + 5] = row[5];
+    rows[at + 6] = row[6];
+    rows[at + 7] = row[7];
+}
+
 // ---- by hand: functions with a run of records
 
 // The first rows, as records, in front of the run.
@@ -164,6 +181,20 @@ pub fn offer(rows: &[i32], count: usize, fields: &mut [Field]) -> usize
 {
     let n = fitting(rows.len(), count, fields.len());
     fill(rows, n, fields);
+    n
+}
+
+// As many of the first `count` records as there are and as the run has room for, as rows. Answers how many.
+pub fn rows_of(fields: &[Field], count: usize, rows: &mut [i32]) -> usize
+    ensures { λ r. ⌜ (r, now (rows .exit)) ≡ rowed (now (fields .entry)) count (now (rows .entry)) ⌝ }
+{
+    let n = fitting(rows.len(), count, fields.len());
+    let mut i = 0;
+    while i < n {
+        let row = row_of(fields[i]);
+        put_row(rows, i, row);
+        i += 1;
+    }
     n
 }
 

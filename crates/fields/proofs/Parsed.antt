@@ -21,7 +21,7 @@ use Rattle.ac3.proofs.MoreRoom.{more-room}
 use Rattle.ac3.proofs.Promise.{promised}
 use Rattle.fields.specs.Fields.{fieldAt, recordOf, filled, fitting, offered, answerWithin, callFor, parsed}
 use Rattle.fields.specs.declared.Field.{Field}
-use Rattle.fields.proofs.Filled.{filled-front}
+use Rattle.fields.proofs.Filled.{filled-listed}
 
 take-replicate : (k n : ℕ) (z : ℤ) → k ≤ n → take k (replicate n z) ≡ replicate k z
 take-replicate zero n z h = refl
@@ -101,6 +101,6 @@ module _ (capture : List ℕ) (place : ℕ) (run : List Field) (rows after : Lis
       ap (λ x. x .1) told
       ∙ ap (λ (i : ℕ). filled (fieldAt after) i run) all
       ∙ ap (λ (l : List ℤ). filled (fieldAt l) (length (listed c)) run) room
-      ∙ filled-front (listed c) behind run (omega (arith, few)) in
+      ∙ filled-listed (listed c) behind run (omega (arith, few)) in
       let whole = same-call capture place (length run) in
       λ j. ((same ∙ sym (whole .answer)) j, (offers ∙ ap (λ (l : List Row). map recordOf l ++ drop (length l) run) (sym (whole .list))) j)

@@ -9,11 +9,7 @@ use lib.ListN.{length, getD, take, drop, length-append, length-drop}
 use lib.Seq.{sets, sets-eq, length-take-le, take-suc, take-at, drop-at, drop-drop}
 use Rattle.fields.specs.Fields.{blank, rowOf, rowsOf}
 use Rattle.fields.specs.declared.Field.{Field}
-
-pub length-rows : (fs : List Field) → length (rowsOf fs) ≡ length fs * 8
-unfolding rowsOf
-length-rows [] = refl
-length-rows (f ∷ fs) = let h = length-rows fs in omega arith
+use Rattle.fields.proofs.Filled.{length-rows}
 
 rows-append : (fs gs : List Field) → rowsOf (fs ++ gs) ≡ rowsOf fs ++ rowsOf gs
 unfolding rowsOf

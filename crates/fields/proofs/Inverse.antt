@@ -87,36 +87,57 @@ module _ (fields : List Field) (bytes : InBytes (recordRoles fields)) (count : �
   abbrev n : ℕ
   n = rowed fields count rows .0
 
+  -- the records whose rows were written, and the rows after that
+  abbrev first : List Field
+  first = take n fields
+
   abbrev after : List ℤ
   after = rowed fields count rows .1
 
-  records-back : n ≤ length run → offered after n run ≡ (n, take n fields ++ drop n run)
-  records-back h =
-      let len : length (take n fields) ≡ n = length-take-le n fields (omega arith) in
-      let long : length after ≡ length rows = length-written fields rows n (omega arith) (omega arith) in
-      let all : fitting (length after) n (length run) ≡ n = omega (arith, long, h) in
-      let filled-is : filled (fieldAt after) (length (take n fields)) run ≡ take n fields ++ drop (length (take n fields)) run =
-      filled-back (take n fields) (drop (n * 8) rows) run (omega (arith, len, h)) ∙ ap (λ (l : List Field). l ++ drop (length (take n fields)) run) (fields-back (take n fields) (in-front n fields bytes)) in
-      ap (λ (m : ℕ). (m, filled (fieldAt after) m run)) all
-      ∙ ap (λ (l : List Field). (n, l)) (subst (λ (m : ℕ). filled (fieldAt after) m run ≡ take n fields ++ drop m run) len filled-is)
+  length-first : length first ≡ n
+  length-first = length-take-le n fields (omega arith)
+
+  length-after : length after ≡ length rows
+  length-after = length-written fields rows n (omega arith) (omega arith)
+
+  offered-back : length first ≤ length run → filled (fieldAt after) (length first) run ≡ first ++ drop (length first) run
+  offered-back h =
+      filled-back first (drop (n * 8) rows) run h ∙ ap (λ (l : List Field). l ++ drop (length first) run) (fields-back first (in-front n fields bytes))
+
+  records-back : n ≤ length run → offered after n run ≡ (n, first ++ drop n run)
+  records-back h = λ j. (all j, (ap (λ (m : ℕ). filled (fieldAt after) m run) all ∙ front) j)
+    where
+      all : fitting (length after) n (length run) ≡ n
+      all = omega (arith, length-after, h)
+
+      front : filled (fieldAt after) n run ≡ first ++ drop n run
+      front = subst (λ (m : ℕ). filled (fieldAt after) m run ≡ first ++ drop m run) length-first (offered-back (omega (arith, length-first, h)))
 
 module _ (rs : List Row) (bytes : InBytes (rowRoles rs)) (more : List ℤ) (run : List Field) (room : List ℤ) (enough : length rs ≤ length run) (fits : length rs * 8 ≤ length room) where
   -- the run of records, once the rows are offered over it
   abbrev there : List Field
   there = map recordOf rs ++ drop (length rs) run
 
+  all-offered : fitting (length (flatten rs ++ more)) (length rs) (length run) ≡ length rs
+  all-offered = omega (arith, length-append (flatten rs) more, length-listed rs, enough)
+
   offers : offered (flatten rs ++ more) (length rs) run ≡ (length rs, there)
-  offers =
-      let all : fitting (length (flatten rs ++ more)) (length rs) (length run) ≡ length rs = omega (arith, length-append (flatten rs) more, length-listed rs, enough) in
-      ap (λ (m : ℕ). (m, filled (fieldAt (flatten rs ++ more)) m run)) all ∙ ap (λ (l : List Field). (length rs, l)) (filled-listed rs more run enough)
+  offers = λ j. (all-offered j, (ap (λ (m : ℕ). filled (fieldAt (flatten rs ++ more)) m run) all-offered ∙ filled-listed rs more run enough) j)
+
+  length-records : length (map recordOf rs) ≡ length rs
+  length-records = length-map rs recordOf
+
+  all-written : fitting (length room) (length rs) (length there) ≡ length rs
+  all-written = omega (arith, length-append (map recordOf rs) (drop (length rs) run), length-records, fits)
+
+  first-rows : rowsOf (take (length rs) there) ≡ flatten rs
+  first-rows = ap rowsOf (take-at (map recordOf rs) (drop (length rs) run) (length rs) length-records) ∙ flat-back rs bytes
 
   rows-back : let told = offered (flatten rs ++ more) (length rs) run in rowed (told .1) (told .0) room ≡ (length rs, flatten rs ++ drop (length rs * 8) room)
   rows-back =
-      let len : length (map recordOf rs) ≡ length rs = length-map rs recordOf in
-      let all : fitting (length room) (length rs) (length there) ≡ length rs = omega (arith, length-append (map recordOf rs) (drop (length rs) run), len, fits) in
       ap (λ (told : ℕ × List Field). rowed (told .1) (told .0) room) offers
-      ∙ ap (λ (m : ℕ). (m, rowsOf (take m there) ++ drop (m * 8) room)) all
-      ∙ ap (λ (l : List ℤ). (length rs, l ++ drop (length rs * 8) room)) (ap rowsOf (take-at (map recordOf rs) (drop (length rs) run) (length rs) len) ∙ flat-back rs bytes)
+      ∙ ap (λ (m : ℕ). (m, rowsOf (take m there) ++ drop (m * 8) room)) all-written
+      ∙ ap (λ (l : List ℤ). (length rs, l ++ drop (length rs * 8) room)) first-rows
 
 pub inverse : Inverse
 inverse =

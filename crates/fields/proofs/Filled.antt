@@ -11,7 +11,7 @@ use lib.ListN.{length, getD, set, drop, length-set}
 use Rattle.syntax.specs.Numbers.{numbers}
 use Rattle.syntax.specs.Place.{flatten}
 use Rattle.syntax.specs.Run.{Row}
-use Rattle.fields.specs.Fields.{fieldOf, rowOf, rowAt, fieldAt, recordOf, filled, rowsOf}
+use Rattle.fields.specs.Fields.{rowWidth, fieldOf, rowOf, rowAt, fieldAt, recordOf, filled, rowsOf}
 use Rattle.fields.specs.declared.Field.{Field}
 
 module _ (f : ℕ → Field) (old : List Field) where
@@ -40,13 +40,13 @@ joined row [] = []
 joined row (x ∷ xs) = rowAt (row x) 0 ++ joined row xs
 
 module _ {X : Type 0} (row : X → List ℤ) where
-  length-joined : (xs : List X) → length (joined row xs) ≡ length xs * 8
+  length-joined : (xs : List X) → length (joined row xs) ≡ length xs * rowWidth
   length-joined [] = refl
   length-joined (x ∷ xs) = omega (arith, length-joined xs)
 
   -- the numbers of the next row, once the first row is gone
   module _ (x : X) (rest : List ℤ) where
-    next-number : (m n : ℕ) → m ≡ n + 8 → getD (rowAt (row x) 0 ++ rest) m (pos 0) ≡ getD rest n (pos 0)
+    next-number : (m n : ℕ) → m ≡ n + rowWidth → getD (rowAt (row x) 0 ++ rest) m (pos 0) ≡ getD rest n (pos 0)
     next-number m n e = ap (λ k. getD (rowAt (row x) 0 ++ rest) k (pos 0)) e′
       where
         e′ : m ≡ suc (suc (suc (suc (suc (suc (suc (suc n)))))))
@@ -56,14 +56,14 @@ module _ {X : Type 0} (row : X → List ℤ) where
     next-row i =
         ap fieldOf
         (λ j.
-        next-number (suc i * 8) (i * 8) (omega arith) j
-        ∷ next-number (suc i * 8 + 1) (i * 8 + 1) (omega arith) j
-        ∷ next-number (suc i * 8 + 2) (i * 8 + 2) (omega arith) j
-        ∷ next-number (suc i * 8 + 3) (i * 8 + 3) (omega arith) j
-        ∷ next-number (suc i * 8 + 4) (i * 8 + 4) (omega arith) j
-        ∷ next-number (suc i * 8 + 5) (i * 8 + 5) (omega arith) j
-        ∷ next-number (suc i * 8 + 6) (i * 8 + 6) (omega arith) j
-        ∷ next-number (suc i * 8 + 7) (i * 8 + 7) (omega arith) j
+        next-number (suc i * rowWidth) (i * rowWidth) (omega arith) j
+        ∷ next-number (suc i * rowWidth + 1) (i * rowWidth + 1) (omega arith) j
+        ∷ next-number (suc i * rowWidth + 2) (i * rowWidth + 2) (omega arith) j
+        ∷ next-number (suc i * rowWidth + 3) (i * rowWidth + 3) (omega arith) j
+        ∷ next-number (suc i * rowWidth + 4) (i * rowWidth + 4) (omega arith) j
+        ∷ next-number (suc i * rowWidth + 5) (i * rowWidth + 5) (omega arith) j
+        ∷ next-number (suc i * rowWidth + 6) (i * rowWidth + 6) (omega arith) j
+        ∷ next-number (suc i * rowWidth + 7) (i * rowWidth + 7) (omega arith) j
         ∷ [])
 
   filled-joined : (xs : List X) (more : List ℤ) (run : List Field) → length xs ≤ length run
@@ -87,7 +87,7 @@ unfolding flatten
 flatten-joined [] = refl
 flatten-joined (r ∷ rs) = ap (λ (l : List ℤ). numbers r ++ l) (flatten-joined rs)
 
-pub length-listed : (rs : List Row) → length (flatten rs) ≡ length rs * 8
+pub length-listed : (rs : List Row) → length (flatten rs) ≡ length rs * rowWidth
 length-listed rs = ap length (flatten-joined rs) ∙ length-joined numbers rs
 
 rows-joined : (fs : List Field) → rowsOf fs ≡ joined rowOf fs
@@ -95,7 +95,7 @@ unfolding rowsOf
 rows-joined [] = refl
 rows-joined (f ∷ fs) = ap (λ (l : List ℤ). rowOf f ++ l) (rows-joined fs)
 
-pub length-rows : (fs : List Field) → length (rowsOf fs) ≡ length fs * 8
+pub length-rows : (fs : List Field) → length (rowsOf fs) ≡ length fs * rowWidth
 length-rows fs = ap length (rows-joined fs) ∙ length-joined rowOf fs
 
 pub filled-listed : (rs : List Row) (more : List ℤ) (run : List Field) → length rs ≤ length run

@@ -15,11 +15,11 @@ use Rattle.syntax.specs.Place.{flatten}
 use Rattle.syntax.specs.Run.{Row}
 use Rattle.syntax.specs.declared.Role.{Role}
 use Rattle.syntax.specs.declared.Role.the-variants.{Plain, Sync, Crc1, Crc2, CrcRsv, FrameSize, Dialnorm, ComprExists, Compr, DynrngExists, Dynrng, Skiple, Skipl, Skipfld, Addbsi, Mantissas, AuxBits, AuxDataL, AuxDataE, BlkStrtInfoE, BlkStrtInfo}
-use Rattle.fields.specs.Fields.{programmeOf, roleOf, fieldOf, rowOf, fieldAt, recordOf, filled, fitting, offered, rowsOf, rowed}
+use Rattle.fields.specs.Fields.{rowWidth, programmeOf, roleOf, fieldOf, rowOf, fieldAt, recordOf, filled, fitting, offered, rowsOf, rowsWritten}
 use Rattle.fields.specs.Inverse.{InByte, InBytes, recordRoles, rowRoles, Inverse}
 use Rattle.fields.specs.declared.Field.{Field}
 use Rattle.fields.proofs.Filled.{length-listed, filled-listed, filled-back}
-use Rattle.fields.proofs.Rowed.{length-written}
+use Rattle.fields.proofs.Written.{length-written}
 
 programme-back : (p : ℕ) → p ≤ 255 → programmeOf (shown p) ≡ p
 unfolding programmeOf shown
@@ -85,14 +85,14 @@ in-front (suc n) (f ∷ fs) h = (h .0, in-front n fs (h .1))
 
 module _ (fields : List Field) (bytes : InBytes (recordRoles fields)) (count : ℕ) (rows : List ℤ) (run : List Field) where
   abbrev n : ℕ
-  n = rowed fields count rows .0
+  n = rowsWritten fields count rows .0
 
   -- the records whose rows were written, and the rows after that
   abbrev first : List Field
   first = take n fields
 
   abbrev after : List ℤ
-  after = rowed fields count rows .1
+  after = rowsWritten fields count rows .1
 
   length-first : length first ≡ n
   length-first = length-take-le n fields (omega arith)
@@ -102,7 +102,7 @@ module _ (fields : List Field) (bytes : InBytes (recordRoles fields)) (count : �
 
   offered-back : length first ≤ length run → filled (fieldAt after) (length first) run ≡ first ++ drop (length first) run
   offered-back h =
-      filled-back first (drop (n * 8) rows) run h ∙ ap (λ (l : List Field). l ++ drop (length first) run) (fields-back first (in-front n fields bytes))
+      filled-back first (drop (n * rowWidth) rows) run h ∙ ap (λ (l : List Field). l ++ drop (length first) run) (fields-back first (in-front n fields bytes))
 
   records-back : n ≤ length run → offered after n run ≡ (n, first ++ drop n run)
   records-back h = λ j. (all j, (ap (λ (m : ℕ). filled (fieldAt after) m run) all ∙ front) j)
@@ -113,7 +113,7 @@ module _ (fields : List Field) (bytes : InBytes (recordRoles fields)) (count : �
       front : filled (fieldAt after) n run ≡ first ++ drop n run
       front = subst (λ (m : ℕ). filled (fieldAt after) m run ≡ first ++ drop m run) length-first (offered-back (omega (arith, length-first, h)))
 
-module _ (rs : List Row) (bytes : InBytes (rowRoles rs)) (more : List ℤ) (run : List Field) (room : List ℤ) (enough : length rs ≤ length run) (fits : length rs * 8 ≤ length room) where
+module _ (rs : List Row) (bytes : InBytes (rowRoles rs)) (more : List ℤ) (run : List Field) (room : List ℤ) (enough : length rs ≤ length run) (fits : length rs * rowWidth ≤ length room) where
   -- the run of records, once the rows are offered over it
   abbrev there : List Field
   there = map recordOf rs ++ drop (length rs) run
@@ -133,11 +133,11 @@ module _ (rs : List Row) (bytes : InBytes (rowRoles rs)) (more : List ℤ) (run 
   first-rows : rowsOf (take (length rs) there) ≡ flatten rs
   first-rows = ap rowsOf (take-at (map recordOf rs) (drop (length rs) run) (length rs) length-records) ∙ flat-back rs bytes
 
-  rows-back : let told = offered (flatten rs ++ more) (length rs) run in rowed (told .1) (told .0) room ≡ (length rs, flatten rs ++ drop (length rs * 8) room)
+  rows-back : let told = offered (flatten rs ++ more) (length rs) run in rowsWritten (told .1) (told .0) room ≡ (length rs, flatten rs ++ drop (length rs * rowWidth) room)
   rows-back =
-      ap (λ (told : ℕ × List Field). rowed (told .1) (told .0) room) offers
-      ∙ ap (λ (m : ℕ). (m, rowsOf (take m there) ++ drop (m * 8) room)) all-written
-      ∙ ap (λ (l : List ℤ). (length rs, l ++ drop (length rs * 8) room)) first-rows
+      ap (λ (told : ℕ × List Field). rowsWritten (told .1) (told .0) room) offers
+      ∙ ap (λ (m : ℕ). (m, rowsOf (take m there) ++ drop (m * rowWidth) room)) all-written
+      ∙ ap (λ (l : List ℤ). (length rs, l ++ drop (length rs * rowWidth) room)) first-rows
 
 pub inverse : Inverse
 inverse =

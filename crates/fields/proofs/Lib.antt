@@ -4,4 +4,4 @@ pub mod Inverse
 pub mod LocalRun
 pub mod Parsed
 pub mod Passed
-pub mod Rowed
+pub mod Written

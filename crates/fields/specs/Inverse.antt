@@ -8,7 +8,7 @@ use Rattle.syntax.specs.Numbers.{roleNumbers, shown, numbers}
 use Rattle.syntax.specs.Place.{flatten}
 use Rattle.syntax.specs.Run.{Row}
 use Rattle.syntax.specs.declared.Role.{Role}
-use Rattle.fields.specs.Fields.{fieldOf, rowOf, recordOf, offered, rowed}
+use Rattle.fields.specs.Fields.{rowWidth, fieldOf, rowOf, recordOf, offered, rowsWritten}
 use Rattle.fields.specs.declared.Field.{Field}
 
 -- the programme is a byte, or there is none
@@ -45,10 +45,10 @@ pub record Inverse : Type 0 where
   -- Rows of records (`rows_of`), offered over a run (`offer`): the records stand in front, and the rest is as it was. So over the same records
   -- nothing changes.
   pub records-back : (fields : List Field) → InBytes (recordRoles fields) → (count : ℕ) (rows : List ℤ) (run : List Field)
-      → let n = rowed fields count rows .0 in
-      n ≤ length run → offered (rowed fields count rows .1) n run ≡ (n, take n fields ++ drop n run)
+      → let n = rowsWritten fields count rows .0 in
+      n ≤ length run → offered (rowsWritten fields count rows .1) n run ≡ (n, take n fields ++ drop n run)
   -- Rows of the definition, offered as records, and rows made of those in a room: the rows stand in front, and the rest is as it was.
   pub rows-back : (rs : List Row) → InBytes (rowRoles rs) → (more : List ℤ) (run : List Field) (room : List ℤ)
-      → length rs ≤ length run → length rs * 8 ≤ length room
+      → length rs ≤ length run → length rs * rowWidth ≤ length room
       → let told = offered (flatten rs ++ more) (length rs) run in
-      rowed (told .1) (told .0) room ≡ (length rs, flatten rs ++ drop (length rs * 8) room)
+      rowsWritten (told .1) (told .0) room ≡ (length rs, flatten rs ++ drop (length rs * rowWidth) room)

@@ -11,10 +11,13 @@ ghost use lib.ListN.{length, replicate};
 ghost use lib.IntN.{pos};
 ghost use lib.Seq.{sets};
 ghost use Rattle.ac3.specs.RowBound.{mostRows};
-ghost use Rattle.fields.specs.Fields.{programmeOf, roleOf, fieldOf, rowOf, rowAt, fieldAt, filled, fitting, offered, rowed, answerWithin, parsed};
+ghost use Rattle.fields.specs.Fields.{rowWidth, programmeOf, roleOf, fieldOf, rowOf, rowAt, fieldAt, filled, fitting, offered, rowsWritten, answerWithin, parsed};
+
+// The numbers of a row.
+const ROW: usize = 8;
 
 // The numbers of the most rows that a frame can have.
-const NUMBERS: usize = MOST_ROWS * 8;
+const NUMBERS: usize = MOST_ROWS * ROW;
 
 // -1 stands for "none" in block and index.
 pub struct Field {
@@ -72,7 +75,7 @@ fn role_of(n: usize, p: u8) -> Role
 }
 
 // The record of a row.
-pub fn field_of(row: [i32; 8]) -> Field
+pub fn field_of(row: [i32; ROW]) -> Field
     ensures { λ r. ⌜ r ≡ fieldOf row ⌝ }
 {
     let programme = programme_of(row[2]);
@@ -89,7 +92,7 @@ pub fn field_of(row: [i32; 8]) -> Field
 }
 
 // The row of a record.
-pub fn row_of(field: Field) -> [i32; 8]
+pub fn row_of(field: Field) -> [i32; ROW]
     ensures { λ r. ⌜ r ≡ rowOf field ⌝ }
 {
     let role = field.role;
@@ -108,10 +111,10 @@ pub fn row_of(field: Field) -> [i32; 8]
 
 // Row i of a run of rows, as a record.
 fn field_at(rows: &[i32], i: usize) -> Field
-    requires { ⌜ i * 8 + 8 ≤ length (now rows) ⌝ }
+    requires { ⌜ i * rowWidth + rowWidth ≤ length (now rows) ⌝ }
     ensures { λ r. ⌜ r ≡ fieldAt (now (rows .entry)) i ⌝ }
 {
-    let at = i * 8;
+    let at = i * ROW;
     field_of([
         rows[at],
         rows[at + 1],
@@ -127,30 +130,30 @@ fn field_at(rows: &[i32], i: usize) -> Field
 fn fitting(numbers: usize, count: usize, room: usize) -> usize
     ensures { λ r. ⌜ r ≡ fitting numbers count room ⌝ }
 {
-    signed::least(signed::least(count, numbers / 8), room)
+    signed::least(signed::least(count, numbers / ROW), room)
 }
 
 // Room for as many rows as a frame can have. (Whoever calls it knows the array by what it ensures, and need not compute with it.)
 fn no_rows() -> [i32; NUMBERS]
-    ensures { λ r. ⌜ r ≡ replicate (mostRows * 8) (pos 0) ⌝ }
+    ensures { λ r. ⌜ r ≡ replicate (mostRows * rowWidth) (pos 0) ⌝ }
 {
     [0i32; NUMBERS]
 }
 
 // The frame that starts at a place of a capture, with room for at most n rows of those that are lent.
 fn parse_within(n: usize, capture: &[u8], place: usize, rows: &mut [i32]) -> Answer
-    ensures { λ r. ⌜ (r, now (rows .exit)) ≡ answerWithin (min n (length (now (rows .entry)) / 8)) (now (capture .entry)) place (now (rows .entry)) ⌝ }
+    ensures { λ r. ⌜ (r, now (rows .exit)) ≡ answerWithin (min n (length (now (rows .entry)) / rowWidth)) (now (capture .entry)) place (now (rows .entry)) ⌝ }
 {
-    let room = signed::least(n, rows.len() / 8);
-    ac3::parse(capture, place, &mut rows[..room * 8])
+    let room = signed::least(n, rows.len() / ROW);
+    ac3::parse(capture, place, &mut rows[..room * ROW])
 }
 
 // Row i of a run of rows is written over.
-fn put_row(rows: &mut [i32], i: usize, row: [i32; 8])
-    requires { ⌜ i * 8 + 8 ≤ length (now rows) ⌝ }
-    ensures { λ _. ⌜ now (rows .exit) ≡ sets (now (rows .entry)) (i * 8) (rowAt row 0) ⌝ }
+fn put_row(rows: &mut [i32], i: usize, row: [i32; ROW])
+    requires { ⌜ i * rowWidth + rowWidth ≤ length (now rows) ⌝ }
+    ensures { λ _. ⌜ now (rows .exit) ≡ sets (now (rows .entry)) (i * rowWidth) (rowAt row 0) ⌝ }
 {
-    let at = i * 8;
+    let at = i * ROW;
     rows[at] = row[0];
     rows[at + 1] = row[1];
     rows[at + 2] = row[2];
@@ -165,7 +168,7 @@ fn put_row(rows: &mut [i32], i: usize, row: [i32; 8])
 
 // The first rows, as records, in front of the run.
 fn fill(rows: &[i32], count: usize, fields: &mut [Field])
-    requires { ⌜ (count * 8 ≤ length (now rows)) × (count ≤ length (now fields)) ⌝ }
+    requires { ⌜ (count * rowWidth ≤ length (now rows)) × (count ≤ length (now fields)) ⌝ }
     ensures { λ _. ⌜ now (fields .exit) ≡ filled (fieldAt (now (rows .entry))) count (now (fields .entry)) ⌝ }
 {
     let mut i = 0;
@@ -186,7 +189,7 @@ pub fn offer(rows: &[i32], count: usize, fields: &mut [Field]) -> usize
 
 // As many of the first `count` records as there are and as the run has room for, as rows. Answers how many.
 pub fn rows_of(fields: &[Field], count: usize, rows: &mut [i32]) -> usize
-    ensures { λ r. ⌜ (r, now (rows .exit)) ≡ rowed (now (fields .entry)) count (now (rows .entry)) ⌝ }
+    ensures { λ r. ⌜ (r, now (rows .exit)) ≡ rowsWritten (now (fields .entry)) count (now (rows .entry)) ⌝ }
 {
     let n = fitting(rows.len(), count, fields.len());
     let mut i = 0;

@@ -56,12 +56,12 @@ use denote.Triple.Spec.{Meets, tripleOf}
 use denote.Triple.Table.{entered, cited}
 use denote.Triple.Walked.{says, Stays, stay-slice, stay-none, stay-none-slice, walkOf, goes-slice, goes-none, goes-none-slice, Walks, ends-at, walked, walk-meets}
 use denote.Exit.{yes}
-use Rattle.fields.specs.Fields.{blank, rowOf, rowAt, fitting, rowed}
+use Rattle.fields.specs.Fields.{rowWidth, blank, rowOf, rowAt, fitting, rowsWritten}
 use Rattle.fields.specs.declared.Field.{Field}
 use Rattle.fields.proofs.Field as F
 use Rattle.fields.proofs.Field.Laws as F′
 use Rattle.fields.proofs.Element.{R, mach, machs, tells, typed, place-of, offset-fits}
-use Rattle.fields.proofs.Rowed.{written, written-none, written-next, length-written}
+use Rattle.fields.proofs.Written.{written, written-none, written-next, length-written}
 use Rattle.fields.proofs.fitting as fits
 use Rattle.fields.proofs.fitting.Symbol as fits-def
 use Rattle.fields.proofs.fitting.Symbol.{name as #fields·fitting}
@@ -99,7 +99,7 @@ abbrev rows-ty : Ty
 rows-ty = sliceTy (tyRef (named 1) mut (tyInt w32))
 
 abbrev row-ty : Ty
-row-ty = tyArray (tyInt w32) 8
+row-ty = tyArray (tyInt w32) rowWidth
 
 -- the rows, lent again
 abbrev lent-ptr : Ty
@@ -198,10 +198,10 @@ module _ {M : Type 1} (𝓤 : URA M) (H : Heap 𝓤) (A : Atoms 𝓤) (W : Given
   abbrev Lent : ℕ → GName → List ℤ → Fml
   Lent α δ l = MutSlice (named 0) (α ∷ []) i32 .own (rows-at δ l) (r-val l ∷ [])
 
-  asks-put : (α : ℕ) (δ : GName) (l : List ℤ) (i : ℕ) (r : List ℤ) (v : Val) → i < 2 ^ 64 → i * 8 + 8 ≤ length l
-      → ent 𝓤 (sep 𝓤 (A .lft (α ∷ []) fullShare) (sep 𝓤 (sem 𝓤 H A (Lent α δ l)) (sem 𝓤 H A (Array i32 8 .own r (v ∷ []))))) (PutRow 𝓤 H A mem″ run .pre (to-put α δ l i r v))
+  asks-put : (α : ℕ) (δ : GName) (l : List ℤ) (i : ℕ) (r : List ℤ) (v : Val) → i < 2 ^ 64 → i * rowWidth + rowWidth ≤ length l
+      → ent 𝓤 (sep 𝓤 (A .lft (α ∷ []) fullShare) (sep 𝓤 (sem 𝓤 H A (Lent α δ l)) (sem 𝓤 H A (Array i32 rowWidth .own r (v ∷ []))))) (PutRow 𝓤 H A mem″ run .pre (to-put α δ l i r v))
   asks-put α δ l i r v i-fits there =
-      qed W (‵ (flft (α ∷ []) fullShare) ∷ ‵ (Lent α δ l) ∷ ‵ (Array i32 8 .own r (v ∷ [])) ∷ []) ∵ says ! there $ nothing ! $ move ! (1 ∷ 0 ∷ []) $ join ! $ frame ! $
+      qed W (‵ (flft (α ∷ []) fullShare) ∷ ‵ (Lent α δ l) ∷ ‵ (Array i32 rowWidth .own r (v ∷ [])) ∷ []) ∵ says ! there $ nothing ! $ move ! (1 ∷ 0 ∷ []) $ join ! $ frame ! $
       nothing ! $ move ! (2 ∷ 0 ∷ []) $ fjoin ! $ owned ! usize (Is usize) (uint-makes 𝓤 H A W w64) i _ (refl, i-fits) $ fjoin ! $ move ! (1 ∷ 0 ∷ []) $ fjoin ! $ done !
 
   -- ---- n rows are written
@@ -209,7 +209,7 @@ module _ {M : Type 1} (𝓤 : URA M) (H : Heap 𝓤) (A : Atoms 𝓤) (W : Given
     same-length : (i : ℕ) → i ≤ n → length (done-to i) ≡ length ys
     same-length i h = length-written fs ys i (omega (arith, low, h)) (omega (arith, low, h))
 
-    told : (n, done-to n) ≡ rowed fs count ys
+    told : (n, done-to n) ≡ rowsWritten fs count ys
     told = ap (λ (m : ℕ). (m, done-to m)) low
 
     whole-length : length (done-to n) ≡ length ys
@@ -276,11 +276,11 @@ module _ {M : Type 1} (𝓤 : URA M) (H : Heap 𝓤) (A : Atoms 𝓤) (W : Given
           -- [the token; fields; the rows; the open borrow; obs; auth; _15; …]: its row is made
           use0 W (raw (RowOf 𝓤 H A mem″ run .pre (to-row f))) (asks-row f is) $
           calls-at ! fm (RowOf 𝓤 H A mem″ run) known-row (to-row f) (and-then ! (load ! (from ! (stop !)) (look ! 13 refl)) (no-more !)) (λ v.
-          use1 W (later (some (λ (r : List ℤ). (‵ ftrue ⊛ ‵ (Array i32 8 .own r (v ∷ []))) ⊛ raw (ensured 𝓤 H A row-of.ended (row-of.clauses 𝓤 H A mem″ run) tt (f, tt) tt r)))) (id⊢ 𝓤 _) $ await ! tt $ pick ! (λ r.
+          use1 W (later (some (λ (r : List ℤ). (‵ ftrue ⊛ ‵ (Array i32 rowWidth .own r (v ∷ []))) ⊛ raw (ensured 𝓤 H A row-of.ended (row-of.clauses 𝓤 H A mem″ run) tt (f, tt) tt r)))) (id⊢ 𝓤 _) $ await ! tt $ pick ! (λ r.
           split ! $ move ! (1 ∷ []) $ use1 W (raw (fact 𝓤 (r ≡ rowOf f))) (says-row f r) $ heard ! (r ≡ rowOf f) (λ r-is. split ! $ drop ! $
           -- [what the row owns; the token; fields; the rows; the open borrow; obs; auth; _15; …]
-          peeks ! (Array i32 8) (Is (Array i32 8)) (shows 𝓤 H A (Array i32 8)) r (v ∷ []) (λ arr-is.
-          land ! (from ! (stop !)) (init ! 25 refl (array-lawful 𝓤 H A W i32 (sint-lawful 𝓤 H A W w32) 8 .typed r _ arr-is .0)) $
+          peeks ! (Array i32 rowWidth) (Is (Array i32 rowWidth)) (shows 𝓤 H A (Array i32 rowWidth)) r (v ∷ []) (λ arr-is.
+          land ! (from ! (stop !)) (init ! 25 refl (array-lawful 𝓤 H A W i32 (sint-lawful 𝓤 H A W w32) rowWidth .typed r _ arr-is .0)) $
           assigns ! (addr ! (from ! (fld ! refl (hop ! (look-in ! 31 (sub ! 0 refl (whole !))) (stop !))))) (from ! (stop !)) (init ! 9 refl (tt, tt)) $
           assigns ! (agg ! (and-then ! (load ! (from ! (stop !)) (look ! 9 refl)) (and-then ! (load ! (from ! (fld ! refl (stop !))) (look-in ! 31 (sub ! 1 refl (whole !)))) (no-more !)))) (from ! (stop !)) (init ! 7 refl (tt, (tt, (record { fits = rows-room .0 }, tt)))) $
           rewrite ! 7 (λ (m : ℕ). ‵ (fat fullShare lent-ty l₁₅ 0 (sliceVal (b, o) m))) (sym long) refl $
@@ -291,8 +291,8 @@ module _ {M : Type 1} (𝓤 : URA M) (H : Heap 𝓤) (A : Atoms 𝓤) (W : Given
           move ! (2 ∷ 0 ∷ 3 ∷ []) $ use3 W (raw (PutRow 𝓤 H A mem″ run .pre (to-put α δ (done-to k) k r v))) (asks-put α δ (done-to k) k r v k-fits there) $
           calls-at ! fm (PutRow 𝓤 H A mem″ run) known-put (to-put α δ (done-to k) k r v) (and-then ! (load ! (from ! (stop !)) (look ! 7 refl)) (and-then ! (load ! (from ! (stop !)) (look ! 27 refl)) (and-then ! (load ! (from ! (stop !)) (look ! 25 refl)) (no-more !)))) (λ w.
           use1 W (later (some (λ (x : Unit {0}). ((‵ (flft (α ∷ []) fullShare) ⊛ ‵ ftrue) ⊛ ‵ (unit .own x (w ∷ []))) ⊛ raw (ensured 𝓤 H A put-row.ended (put-row.clauses 𝓤 H A mem″ run) ((α ∷ []), tt) (for-put δ (done-to k) k r) tt x)))) (id⊢ 𝓤 _) $ await ! tt $ pick ! (λ x.
-          split ! $ move ! (1 ∷ []) $ use1 W (some (λ (ws : List ℤ × (Unit {0} × (Unit {0} × Unit {0}))). ‵ (lasts put-row.ended ((α ∷ []), tt) (for-put δ (done-to k) k r) ws) ⊛ raw (fact 𝓤 (ws .0 ≡ sets (done-to k) (k * 8) (rowAt r 0))))) (id⊢ 𝓤 _) $ pick ! (λ ws.
-          split ! $ move ! (1 ∷ []) $ heard ! (ws .0 ≡ sets (done-to k) (k * 8) (rowAt r 0)) (λ e. fsplit ! $ fsplit ! $ move ! (1 ∷ []) $ feqL ! (λ _. move ! (1 ∷ []) $ drop ! $
+          split ! $ move ! (1 ∷ []) $ use1 W (some (λ (ws : List ℤ × (Unit {0} × (Unit {0} × Unit {0}))). ‵ (lasts put-row.ended ((α ∷ []), tt) (for-put δ (done-to k) k r) ws) ⊛ raw (fact 𝓤 (ws .0 ≡ sets (done-to k) (k * rowWidth) (rowAt r 0))))) (id⊢ 𝓤 _) $ pick ! (λ ws.
+          split ! $ move ! (1 ∷ []) $ heard ! (ws .0 ≡ sets (done-to k) (k * rowWidth) (rowAt r 0)) (λ e. fsplit ! $ fsplit ! $ move ! (1 ∷ []) $ feqL ! (λ _. move ! (1 ∷ []) $ drop ! $
           move ! (1 ∷ []) $ split ! $ move ! (1 ∷ []) $ feqL ! (λ is-unit.
           -- [α's token, true; the last rows; the lender's part; the token; fields; the open borrow; obs; auth; _15; …]
           land ! (from ! (stop !)) (init ! 12 refl (subst (λ (x : Val). T (hasTy tyUnit x) × WT x) (sym (ap only is-unit)) (tt, tt))) $
@@ -326,11 +326,11 @@ module _ {M : Type 1} (𝓤 : URA M) (H : Heap 𝓤) (A : Atoms 𝓤) (W : Given
           long : length (done-to k) ≡ length ys
           long = same-length k (i .1)
 
-          there : k * 8 + 8 ≤ length (done-to k)
+          there : k * rowWidth + rowWidth ≤ length (done-to k)
           there = omega (arith, long, low, less)
 
-          one-more : (r l : List ℤ) → r ≡ rowOf f → l ≡ sets (done-to k) (k * 8) (rowAt r 0) → l ≡ done-to (k + 1)
-          one-more r l r-is e = written-next fs ys k l in-run (omega (arith, low, less)) (e ∙ ap (λ (x : List ℤ). sets (done-to k) (k * 8) (rowAt x 0)) r-is)
+          one-more : (r l : List ℤ) → r ≡ rowOf f → l ≡ sets (done-to k) (k * rowWidth) (rowAt r 0) → l ≡ done-to (k + 1)
+          one-more r l r-is e = written-next fs ys k l in-run (omega (arith, low, less)) (e ∙ ap (λ (x : List ℤ). sets (done-to k) (k * rowWidth) (rowAt x 0)) r-is)
 
           next : Upto
           next = (k + 1, add-one-le less)

@@ -8,10 +8,10 @@ use native.Mathlib.Numerals.{add-one}
 use native.Mathlib.Omega.{arith}
 use lib.IntN.{ℤ, pos}
 use lib.ListN.{length, getD, set, drop, length-set}
-use Rattle.syntax.specs.Numbers.{numbers}
+use Rattle.syntax.specs.Numbers.{rowWidth, numbers}
 use Rattle.syntax.specs.Place.{flatten}
 use Rattle.syntax.specs.Run.{Row}
-use Rattle.fields.specs.Fields.{rowWidth, fieldOf, rowOf, rowAt, fieldAt, recordOf, filled, rowsOf}
+use Rattle.fields.specs.Fields.{fieldOf, rowOf, rowAt, fieldAt, recordOf, filled, rowsOf}
 use Rattle.fields.specs.declared.Field.{Field}
 
 module _ (f : ℕ → Field) (old : List Field) where

@@ -10,12 +10,12 @@ use lib.IntN.{ℤ, pos, negsuc}
 use lib.ListN.{length, take, drop, length-append, length-map}
 use lib.Seq.{length-take-le, take-at}
 use Rattle.signed.specs.Level.{clampZ}
-use Rattle.syntax.specs.Numbers.{roleNumbers, shown, numbers}
+use Rattle.syntax.specs.Numbers.{rowWidth, roleNumbers, shown, numbers}
 use Rattle.syntax.specs.Place.{flatten}
 use Rattle.syntax.specs.Run.{Row}
 use Rattle.syntax.specs.declared.Role.{Role}
 use Rattle.syntax.specs.declared.Role.the-variants.{Plain, Sync, Crc1, Crc2, CrcRsv, FrameSize, Dialnorm, ComprExists, Compr, DynrngExists, Dynrng, Skiple, Skipl, Skipfld, Addbsi, Mantissas, AuxBits, AuxDataL, AuxDataE, BlkStrtInfoE, BlkStrtInfo}
-use Rattle.fields.specs.Fields.{rowWidth, programmeOf, roleOf, fieldOf, rowOf, fieldAt, recordOf, filled, fitting, offered, rowsOf, rowsWritten}
+use Rattle.fields.specs.Fields.{programmeOf, roleOf, fieldOf, rowOf, fieldAt, recordOf, filled, fitting, offered, rowsOf, rowsWritten}
 use Rattle.fields.specs.Inverse.{InByte, InBytes, recordRoles, rowRoles, Inverse}
 use Rattle.fields.specs.declared.Field.{Field}
 use Rattle.fields.proofs.Filled.{length-listed, filled-listed, filled-back}

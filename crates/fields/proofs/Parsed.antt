@@ -9,6 +9,7 @@ use lib.Dec.{ltb}
 use lib.IntN.{ℤ, pos}
 use lib.ListN.{length, take, drop, replicate, length-replicate}
 use borrow.Author.Tests.{ltb-true, ltb-false}
+use Rattle.syntax.specs.Numbers.{rowWidth}
 use Rattle.syntax.specs.Place.{flatten}
 use Rattle.syntax.specs.Run.{Row, start}
 use Rattle.syntax.proofs.Agreement.{rows-fit}
@@ -19,7 +20,7 @@ use Rattle.ac3.specs.RowBound.{mostRows}
 use Rattle.ac3.specs.declared.Answer.{Answer}
 use Rattle.ac3.proofs.MoreRoom.{more-room}
 use Rattle.ac3.proofs.Promise.{promised}
-use Rattle.fields.specs.Fields.{rowWidth, fieldAt, recordOf, filled, fitting, offered, answerWithin, callFor, parsed}
+use Rattle.fields.specs.Fields.{fieldAt, recordOf, filled, fitting, offered, answerWithin, callFor, parsed}
 use Rattle.fields.specs.declared.Field.{Field}
 use Rattle.fields.proofs.Filled.{filled-listed}
 

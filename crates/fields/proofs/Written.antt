@@ -7,7 +7,8 @@ use native.Mathlib.Omega.{arith}
 use lib.IntN.{ℤ}
 use lib.ListN.{length, getD, take, drop, length-append, length-drop}
 use lib.Seq.{sets, sets-eq, length-take-le, take-suc, take-at, drop-at, drop-drop}
-use Rattle.fields.specs.Fields.{rowWidth, blank, rowOf, rowsOf}
+use Rattle.syntax.specs.Numbers.{rowWidth}
+use Rattle.fields.specs.Fields.{blank, rowOf, rowsOf}
 use Rattle.fields.specs.declared.Field.{Field}
 use Rattle.fields.proofs.Filled.{length-rows}
 

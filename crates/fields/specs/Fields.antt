@@ -4,7 +4,7 @@ use Prim.Native.Nat.{ℕ, zero, suc, _+_, _*_, _/_, min}
 use lib.IntN.{ℤ, pos, negsuc}
 use lib.ListN.{length, getD, set, take, drop, replicate}
 use Rattle.signed.specs.Level.{clampZ}
-use Rattle.syntax.specs.Numbers.{roleNumbers, shown, numbers}
+use Rattle.syntax.specs.Numbers.{rowWidth, roleNumbers, shown, numbers}
 use Rattle.syntax.specs.Run.{Row}
 use Rattle.syntax.specs.declared.Role.{Role}
 use Rattle.syntax.specs.declared.Role.the-variants.{Plain, Sync, Crc1, Crc2, CrcRsv, FrameSize, Dialnorm, ComprExists, Compr, DynrngExists, Dynrng, Skiple, Skipl, Skipfld, Addbsi, Mantissas, AuxBits, AuxDataL, AuxDataE, BlkStrtInfoE, BlkStrtInfo}
@@ -12,10 +12,6 @@ use Rattle.ac3.specs.Frame.{answer}
 use Rattle.ac3.specs.Promise.{Call, call, listed, answerTo}
 use Rattle.ac3.specs.declared.Answer.{Answer}
 use Rattle.fields.specs.declared.Field.{Field}
-
--- the numbers of a row
-abbrev pub rowWidth : ℕ
-rowWidth = 8
 
 -- a row's programme as a role holds it: 255 stands for "none", and for what is no programme
 unfoldable pub programmeOf : ℤ → ℕ

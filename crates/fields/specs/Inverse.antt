@@ -4,11 +4,11 @@ use mathlib.Core.Path.{_≡_}
 use Prim.Native.Nat.{ℕ, _*_, _≤_}
 use lib.IntN.{ℤ, pos}
 use lib.ListN.{length, take, drop}
-use Rattle.syntax.specs.Numbers.{roleNumbers, shown, numbers}
+use Rattle.syntax.specs.Numbers.{rowWidth, roleNumbers, shown, numbers}
 use Rattle.syntax.specs.Place.{flatten}
 use Rattle.syntax.specs.Run.{Row}
 use Rattle.syntax.specs.declared.Role.{Role}
-use Rattle.fields.specs.Fields.{rowWidth, fieldOf, rowOf, recordOf, offered, rowsWritten}
+use Rattle.fields.specs.Fields.{fieldOf, rowOf, recordOf, offered, rowsWritten}
 use Rattle.fields.specs.declared.Field.{Field}
 
 -- the programme is a byte, or there is none

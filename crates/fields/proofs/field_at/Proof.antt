@@ -5,7 +5,8 @@ use Prim.Native.Nat.{ℕ, _+_, _*_}
 use borrow.Author.Needs.{needs}
 use lib.IntN.{ℤ, pos}
 use lib.ListN.{getD}
-use Rattle.fields.specs.Fields.{rowWidth, fieldOf}
+use Rattle.syntax.specs.Numbers.{rowWidth}
+use Rattle.fields.specs.Fields.{fieldOf}
 use Rattle.fields.proofs.Passed.{passed}
 use Rattle.fields.proofs.field_at.Statement.{statement}
 use Rattle.fields.proofs.field_at.Tie as tie

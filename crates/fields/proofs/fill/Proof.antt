@@ -50,7 +50,8 @@ use denote.Triple.Spec.{Meets, tripleOf}
 use denote.Triple.Table.{entered, cited}
 use denote.Triple.Walked.{says, needs, Stays, stay-slice, stay-none, stay-none-slice, walkOf, goes-slice, goes-none, goes-none-slice, Walks, ends-at, walked, walk-meets}
 use denote.Exit.{yes}
-use Rattle.fields.specs.Fields.{rowWidth, blank, fieldAt, filled}
+use Rattle.syntax.specs.Numbers.{rowWidth}
+use Rattle.fields.specs.Fields.{blank, fieldAt, filled}
 use Rattle.fields.specs.declared.Field.{Field}
 use Rattle.fields.proofs.Field.Laws as F′
 use Rattle.fields.proofs.Element.{R, machs, tells, typed, place-of, offset-fits}

@@ -38,7 +38,8 @@ use denote.Triple.Spec.{Meets, tripleOf}
 use denote.Triple.Table.{entered, cited}
 use denote.Triple.Walked.{says, Stays, gave-slice, stay-none, stay-none-slice, walkOf, goes-gave-slice, goes-none, goes-none-slice, Walks, ends-at, walked, walk-meets}
 use denote.Exit.{yes}
-use Rattle.fields.specs.Fields.{rowWidth, fieldAt, filled, fitting, offered}
+use Rattle.syntax.specs.Numbers.{rowWidth}
+use Rattle.fields.specs.Fields.{fieldAt, filled, fitting, offered}
 use Rattle.fields.specs.declared.Field.{Field}
 use Rattle.fields.proofs.Element.{R}
 use Rattle.fields.proofs.fitting as fits

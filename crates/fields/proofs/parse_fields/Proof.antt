@@ -48,11 +48,12 @@ use denote.Triple.Spec.{Meets, tripleOf}
 use denote.Triple.Table.{entered, cited}
 use denote.Triple.Walked.{says, Stays, gave-slice, stay-none, stay-none-slice, walkOf, goes-gave-slice, goes-none, goes-none-slice, Walks, ends-at, walked, walk-meets}
 use denote.Exit.{yes}
+use Rattle.syntax.specs.Numbers.{rowWidth}
 use Rattle.ac3.specs.RowBound.{mostRows}
 use Rattle.ac3.specs.declared.Answer.{Answer}
 use Rattle.ac3.proofs.Answer as Ans
 use Rattle.ac3.proofs.Answer.Laws as Ans′
-use Rattle.fields.specs.Fields.{rowWidth, answerWithin, offered, parsed}
+use Rattle.fields.specs.Fields.{answerWithin, offered, parsed}
 use Rattle.fields.specs.declared.Field.{Field}
 use Rattle.fields.proofs.Element.{R}
 use Rattle.fields.proofs.LocalRun.{to-run, to-room, big-lit}

@@ -6,9 +6,10 @@ use borrow.Author.Needs.{needs}
 use lib.IntN.{ℤ}
 use lib.ListN.{take, drop}
 use lib.Seq.{length-take-le}
+use Rattle.syntax.specs.Numbers.{rowWidth}
 use Rattle.ac3.specs.Frame.{answer}
 use Rattle.ac3.specs.declared.Answer.{Answer}
-use Rattle.fields.specs.Fields.{rowWidth, answerWithin}
+use Rattle.fields.specs.Fields.{answerWithin}
 use Rattle.fields.proofs.parse_within.Statement.{statement}
 use Rattle.fields.proofs.parse_within.Tie as tie
 

@@ -9,7 +9,7 @@ use Rattle.ac3.specs.Frame.{summaryOf}
 use Rattle.ac3.specs.Promise.{Call, Promised, listed}
 use Rattle.ac3.specs.Within.{Within}
 use Rattle.ac3.specs.declared.Answer.{Answer}
-use Rattle.ferrysprig.specs.Numbers.{summaryNumbers, answerNumbers}
+use Rattle.ferrysprig.specs.Numbers.{inOrder, summaryNumbers, answerNumbers}
 use Rattle.ferrysprig.specs.Promise.{PromisedNumbers}
 
 same : {m n : ℕ} → pos m ≡ pos n → m ≡ n

@@ -7,8 +7,8 @@ ghost use Rattle.ac3.specs.Frame as frame;
 ghost use Rattle.ac3.specs.Promise.{call};
 ghost use Rattle.ac3.specs.RowBound.{mostRows};
 ghost use Rattle.burst.specs.Answers as bursts;
-ghost use Rattle.ferrysprig.specs.Bursts.{burstInOrder, burstTold};
-ghost use Rattle.ferrysprig.specs.Numbers.{flag, inOrder, told};
+ghost use Rattle.ferrysprig.specs.Bursts.{burstInOrder, burstNumbers, burstTold};
+ghost use Rattle.ferrysprig.specs.Numbers.{flag, inOrder, answerNumbers, told};
 ghost use Rattle.ferrysprig.specs.Promise.{PromisedNumbers};
 
 // The numbers of an answer, and of one about a burst.
@@ -60,6 +60,17 @@ fn in_order(a: Answer) -> [u16; ANSWER]
     ]
 }
 
+// The same as the caller reads them.
+fn numbers(a: Answer) -> [i32; ANSWER]
+    requires { ⌜ (a .rows ≤ mostRows) × (a .summary .rows ≤ mostRows) ⌝ }
+    ensures { λ r. ⌜ r ≡ answerNumbers a ⌝ }
+{
+    let small = in_order(a);
+    let mut out = [0i32; ANSWER];
+    writer::numbers(&small, &mut out);
+    out
+}
+
 // Parses the frame at a place of a capture into the lent rows, and writes the answer's numbers.
 #[no_mangle]
 pub extern "C" fn ferrysprig_parse(
@@ -71,8 +82,7 @@ pub extern "C" fn ferrysprig_parse(
     ensures { λ _. ⌜ (now (answer .exit), now (rows .exit)) ≡ told (frame.answer (now (capture .entry)) place (now (rows .entry))) ⌝ }
     ensures { λ _. ⌜ PromisedNumbers (call (now (capture .entry)) place (now (rows .entry))) (now (answer .exit)) (now (rows .exit)) ⌝ }
 {
-    let numbers = in_order(ac3::parse(capture, place, rows));
-    writer::numbers(&numbers, answer);
+    *answer = numbers(ac3::parse(capture, place, rows));
 }
 
 // Whether the n bits of x from bit a on are those of y from bit b on. Where either range ends past its slice they are not.
@@ -91,6 +101,16 @@ fn burst_in_order(a: burst::Answer) -> [u16; BURST_ANSWER]
     [a.refusal as u16, a.rows as u16, a.bytes]
 }
 
+fn burst_numbers(a: burst::Answer) -> [i32; BURST_ANSWER]
+    requires { ⌜ a .rows ≤ mostRows ⌝ }
+    ensures { λ r. ⌜ r ≡ burstNumbers a ⌝ }
+{
+    let small = burst_in_order(a);
+    let mut out = [0i32; BURST_ANSWER];
+    writer::numbers(&small, &mut out);
+    out
+}
+
 // Writes the frame at a place of a capture as one IEC 61937 burst of 6,144 bytes, and the answer's numbers.
 #[no_mangle]
 pub extern "C" fn ferrysprig_burst_write(
@@ -102,8 +122,7 @@ pub extern "C" fn ferrysprig_burst_write(
 )
     ensures { λ _. ⌜ (now (answer .exit), (now (rows .exit), now (out .exit))) ≡ burstTold (bursts.written (now (capture .entry)) place (now (rows .entry)) (now (out .entry))) ⌝ }
 {
-    let numbers = burst_in_order(burst::burst_write(capture, place, rows, out));
-    writer::numbers(&numbers, answer);
+    *answer = burst_numbers(burst::burst_write(capture, place, rows, out));
 }
 
 // Writes the frame of an IEC 61937 burst, and the answer's numbers.
@@ -116,6 +135,5 @@ pub extern "C" fn ferrysprig_burst_read(
 )
     ensures { λ _. ⌜ (now (answer .exit), (now (rows .exit), now (out .exit))) ≡ burstTold (bursts.read (now (burst .entry)) (now (rows .entry)) (now (out .entry))) ⌝ }
 {
-    let numbers = burst_in_order(burst::burst_read(burst, rows, out));
-    writer::numbers(&numbers, answer);
+    *answer = burst_numbers(burst::burst_read(burst, rows, out));
 }

@@ -221,7 +221,8 @@ pub fn parse_fields(capture: &[u8], place: usize, fields: &mut [Field]) -> Answe
     answer
 }
 
-// The frame that starts at a place of a capture, read into records; its rows are made of those.
+// The frame that starts at a place of a capture, read into records; its rows are made of those. It exists so that records are run, not only
+// proved: crate `replay` holds these rows against the judge's.
 pub fn parse_through(capture: &[u8], place: usize, rows: &mut [i32]) -> Answer
     ensures { λ r. ⌜ (r, now (rows .exit)) ≡ parsedThrough (now (capture .entry)) place (now (rows .entry)) ⌝ }
 {

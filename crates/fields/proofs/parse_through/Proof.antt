@@ -90,10 +90,10 @@ tells-a = LL.tells Ans.the-type Ans′.the-laws
 abbrev N : ℕ
 N = mostRows
 
-abbrev Zeros : List Field → Type 0
-Zeros xs = xs ≡ replicate N blank
+abbrev Blanks : List Field → Type 0
+Blanks xs = xs ≡ replicate N blank
 
-long : (xs : List Field) → Zeros xs → length xs ≡ N
+long : (xs : List Field) → Blanks xs → length xs ≡ N
 long xs z = ap length z ∙ length-replicate N blank
 
 has-room : (xs : List Field) → length xs ≡ N → Room R (length xs)
@@ -147,9 +147,9 @@ module _ {M : Type 1} (𝓤 : URA M) (H : Heap 𝓤) (A : Atoms 𝓤) (W : Given
   Post = walkOf 𝓤 H A this.ended stayed (this.clauses 𝓤 H A mem″ run) .post (((κ₀, (κ₁, tt)), (q₀, (q₁, tt)), tt, a, vals), tt)
 
   -- what the calls ensure, together
-  through-is : {r : Answer} {xs fs : List Field} {m : ℕ} {l : List ℤ} → Zeros xs → (r, fs) ≡ parsed (cs .now) place xs → (m, l) ≡ rowsWritten fs (r .rows) (os .now) → (r, l) ≡ parsedThrough (cs .now) place (os .now)
-  through-is zeros said told =
-      let there = said ∙ ap (parsed (cs .now) place) zeros in
+  through-is : {r : Answer} {xs fs : List Field} {m : ℕ} {l : List ℤ} → Blanks xs → (r, fs) ≡ parsed (cs .now) place xs → (m, l) ≡ rowsWritten fs (r .rows) (os .now) → (r, l) ≡ parsedThrough (cs .now) place (os .now)
+  through-is blanks said told =
+      let there = said ∙ ap (parsed (cs .now) place) blanks in
       λ j. (there j .0, (ap (λ x. x .1) told ∙ ap (λ (t : Answer × List Field). rowsWritten (t .1) (t .0 .rows) (os .now) .1) there) j)
 
   -- an answer's machine value is typed, so its row count fits
@@ -177,8 +177,8 @@ module _ {M : Type 1} (𝓤 : URA M) (H : Heap 𝓤) (A : Atoms 𝓤) (W : Given
   asks-none : ent 𝓤 (emp 𝓤) (None 𝓤 H A mem″ run .pre to-none)
   asks-none = qed W [] ∵ nothing ! $ nothing ! $ join ! $ frame ! $ done !
 
-  says-none : (xs : List Field) → ent 𝓤 (ensured 𝓤 H A none.ended (none.clauses 𝓤 H A mem″ run) tt tt tt xs) (fact 𝓤 (Zeros xs))
-  says-none xs = exE 𝓤 _ (λ ws. snd∗ 𝓤 (sem 𝓤 H A (lasts none.ended tt tt ws)) (fact 𝓤 (Zeros xs)))
+  says-none : (xs : List Field) → ent 𝓤 (ensured 𝓤 H A none.ended (none.clauses 𝓤 H A mem″ run) tt tt tt xs) (fact 𝓤 (Blanks xs))
+  says-none xs = exE 𝓤 _ (λ ws. snd∗ 𝓤 (sem 𝓤 H A (lasts none.ended tt tt ws)) (fact 𝓤 (Blanks xs)))
 
   -- the records that are lent from the local at l, under the name γ
   abbrev lent : ℕ → GName → List Field → RefT (List Field)
@@ -224,24 +224,24 @@ module _ {M : Type 1} (𝓤 : URA M) (H : Heap 𝓤) (A : Atoms 𝓤) (W : Given
         qed W (tokens ∷ ‵ (owns (ShrSlice (named 0) κ₀ u8 ∷ usize ∷ MutSlice (named 1) κ₁ i32 ∷ []) a vals) ∷ []) ∵ enter ! C Λ code.function (c-val ∷ vint w64 place ∷ o-val ∷ []) _ $
         alloc1 ! (λ l₀. alloc1 ! (λ l₁. alloc1 ! (λ l₂. alloc1 ! (λ l₃. alloc1 ! (λ l₄. alloc1 ! (λ l₅. alloc1 ! (λ l₆. alloc1 ! (λ l₇. alloc1 ! (λ l₈. alloc1 ! (λ l₉. alloc1 ! (λ l₁₀. alloc1 ! (λ l₁₁. alloc1 ! (λ l₁₂. alloc1 ! (λ l₁₃. alloc1 ! (λ l₁₄. alloc0 ! $ params1 ! $
         pass1 ! (init ! 26 refl (tt, (tt, (record { fits = capture-room .0 }, tt)))) $ pass1 ! (init ! 24 refl (tt, record { fits = place-fits })) $ pass1 ! (init ! 22 refl (tt, (tt, (record { fits = room .0 }, tt)))) $ pass0 ! $
-        -- [_14; …; _0; …; the tokens; what capture, place and fields own]
+        -- [_14; …; _0; …; the tokens; what capture, place and rows own]
         move ! (31 ∷ []) $ fsplit ! $ move ! (1 ∷ []) $ fsplit ! $ drop ! $ fsplit ! $ move ! (1 ∷ []) $ drop ! $
-        -- [the run; capture; _14; …; the tokens]: the array is made
+        -- [the rows; capture; _14; …; the tokens]: the array is made
         use0 W (raw (None 𝓤 H A mem″ run .pre to-none)) asks-none $
         calls-at ! fm (None 𝓤 H A mem″ run) known-none to-none (no-more !) (λ u.
         use1 W (later (some (λ (xs : List Field). (‵ ftrue ⊛ ‵ (Array R N .own xs (u ∷ []))) ⊛ raw (ensured 𝓤 H A none.ended (none.clauses 𝓤 H A mem″ run) tt tt tt xs)))) (id⊢ 𝓤 _) $ await ! tt $ pick ! (λ xs.
-        split ! $ move ! (1 ∷ []) $ use1 W (raw (fact 𝓤 (Zeros xs))) (says-none xs) $ heard ! (Zeros xs) (λ zeros. split ! $ drop ! $
-        -- [what the array owns; the run; capture; _14; …]
+        split ! $ move ! (1 ∷ []) $ use1 W (raw (fact 𝓤 (Blanks xs))) (says-none xs) $ heard ! (Blanks xs) (λ blanks. split ! $ drop ! $
+        -- [what the array owns; the rows; capture; _14; …]
         peeks ! (Array R N) (Is (Array R N)) (shows 𝓤 H A (Array R N)) xs (u ∷ []) (λ arr-is.
         land ! (from ! (stop !)) (init ! 17 refl (array-lawful 𝓤 H A W R (LL.lawful F.the-type F′.the-laws 𝓤 H A W) N .typed xs _ arr-is .0)) $
         assigns ! (of-opd ! (load ! (from ! (stop !)) (look ! 17 refl))) (from ! (stop !)) (init ! 23 refl (array-lawful 𝓤 H A W R (LL.lawful F.the-type F′.the-laws 𝓤 H A W) N .typed xs _ arr-is .0)) $
         assigns ! (addr ! (from ! (stop !))) (from ! (stop !)) (init ! 15 refl (tt, tt)) $
         assigns ! (agg ! (and-then ! (load ! (from ! (stop !)) (look ! 15 refl)) (and-then ! (big-lit ! (record { fits = lit< tt })) (no-more !)))) (from ! (stop !)) (init ! 13 refl (tt, (tt, (record { fits = lit< tt }, tt)))) $
-        rewrite ! 13 (λ (m : ℕ). ‵ (fat fullShare (sliceTy (tyRef erased mut (pointee (R .written)))) l₉ 0 (sliceVal (l₄, 0) m))) (sym (long xs zeros)) refl $
+        rewrite ! 13 (λ (m : ℕ). ‵ (fat fullShare (sliceTy (tyRef erased mut (pointee (R .written)))) l₉ 0 (sliceVal (l₄, 0) m))) (sym (long xs blanks)) refl $
         -- it is lent for a lifetime α
         move ! (23 ∷ 0 ∷ []) $ use2 W (‵ (cells (mem R) xs l₄ 0)) (to-run 𝓤 H A W R tt machs tells N l₄ xs u) $ lft-new ! tt (λ α. move ! (1 ∷ []) $
-        use1 W (later (some (λ (γ : GName). ‵ (MutSlice (named 1) (α ∷ []) R .own (lent l₄ γ xs) (s l₄ xs ∷ [])) ⊛ ‵ (flent (α ∷ []) (Held R (length xs) l₄ 0 γ))))) (lends-slice 𝓤 H A W R (named 1) (α ∷ []) xs l₄ 0 (has-room xs (long xs zeros))) $ await ! tt $ pick ! (λ γ. split ! $
-        -- [the numbers; the lender's part; α's token; the run; capture; _14; …; that _4 dies; _3; …; the tokens]
+        use1 W (later (some (λ (γ : GName). ‵ (MutSlice (named 1) (α ∷ []) R .own (lent l₄ γ xs) (s l₄ xs ∷ [])) ⊛ ‵ (flent (α ∷ []) (Held R (length xs) l₄ 0 γ))))) (lends-slice 𝓤 H A W R (named 1) (α ∷ []) xs l₄ 0 (has-room xs (long xs blanks))) $ await ! tt $ pick ! (λ γ. split ! $
+        -- [the records; the lender's part; α's token; the rows; capture; _14; …; that _4 dies; _3; …; the tokens]
         move ! (34 ∷ []) $ split ! $ move ! (6 ∷ []) $ use1 W (‵ Own ⊛ ‵ Own) (shr-slice-copy 𝓤 H A W (named 0) κ₀ u8 .twice cs (c-val ∷ [])) $ split ! $ move ! (2 ∷ 6 ∷ 0 ∷ 4 ∷ []) $
         join ! $ move ! (1 ∷ 2 ∷ []) $ join ! $ move ! (1 ∷ 0 ∷ []) $ use2 W (raw (Parse 𝓤 H A mem″ run .pre (to-parse l₄ α γ xs))) (asks-parse l₄ α γ xs) $
         calls-at ! fm (Parse 𝓤 H A mem″ run) known-parse (to-parse l₄ α γ xs) (and-then ! (load ! (from ! (stop !)) (look ! 30 refl)) (and-then ! (load ! (from ! (stop !)) (look ! 28 refl)) (and-then ! (load ! (from ! (stop !)) (look ! 15 refl)) (no-more !)))) (λ v.
@@ -249,37 +249,37 @@ module _ {M : Type 1} (𝓤 : URA M) (H : Heap 𝓤) (A : Atoms 𝓤) (W : Given
         split ! $ move ! (1 ∷ []) $ use1 W (some (λ (ws : Unit {0} × (Unit {0} × (List Field × Unit {0}))). ‵ (lasts parse.ended (κ₀, ((α ∷ []), tt)) (for-parse l₄ γ xs) ws) ⊛ raw (fact 𝓤 ((r, ws .1 .1 .0) ≡ parsed (cs .now) place xs)))) (id⊢ 𝓤 _) $ pick ! (λ ws.
         split ! $ move ! (1 ∷ []) $ heard ! ((r, ws .1 .1 .0) ≡ parsed (cs .now) place xs) (λ said. fsplit ! $ drop ! $ fsplit ! $ drop ! $ fsplit ! $ fsplit ! $ move ! (1 ∷ []) $ feqL ! (λ same-length.
         move ! (2 ∷ []) $ split ! $ split ! $ move ! (1 ∷ []) $ split ! $ move ! (3 ∷ []) $ peeks ! RA (Is RA) (shows 𝓤 H A RA) r (v ∷ []) (λ r-is. drop ! $
-        -- [α's token; true; capture's token; the last numbers; true; capture; fields' token; the lender's part; the run; _14; …]
+        -- [α's token; true; capture's token; the last records; true; capture; rows' token; the lender's part; the rows; _14; …]
         land ! (from ! (stop !)) (init ! 27 refl (typed r v r-is)) $ rewrite ! 27 (λ (x : Val). ‵ (fat fullShare Ans′.mir l₅ 0 x)) (ap only (tells-a r (v ∷ []) r-is)) refl $
         -- α ends, and the array is back
         lft-end ! tt $ move ! (0 ∷ 7 ∷ 3 ∷ []) $ use3 W (later (‵ (Arr (mem R) (length xs) .lies (ws .1 .1 .0) l₄ 0))) (slice-back 𝓤 H A W R (α ∷ []) γ (ws .1 .1 .0) (length xs) l₄ 0) $ await ! tt $ fsplit ! $ drop ! $
         use1 W (‵ (row R fullShare (ws .1 .1 .0) l₄ 0)) (whole-out 𝓤 H A W R (ws .1 .1 .0) l₄ 0) $ move ! (1 ∷ []) $ drop ! $ move ! (2 ∷ []) $ drop ! $
-        -- [the numbers; capture's token; capture; fields' token; the run; _14; …]
+        -- [the records; capture's token; capture; rows' token; the rows; _14; …]
         assigns ! (of-opd ! (load ! (from ! (fld ! refl (stop !))) (look-in ! 23 (sub ! 1 refl (whole !))))) (from ! (stop !)) (init ! 21 refl (tt, record { fits = rows-fit r r-is })) $
         assigns ! (addr ! (from ! (stop !))) (from ! (stop !)) (init ! 11 refl (tt, tt)) $
         assigns ! (agg ! (and-then ! (load ! (from ! (stop !)) (look ! 11 refl)) (and-then ! (big-lit ! (record { fits = lit< tt })) (no-more !)))) (from ! (stop !)) (init ! 9 refl (tt, (tt, (record { fits = lit< tt }, tt)))) $
-        rewrite ! 9 (λ (m : ℕ). ‵ (fat fullShare (sliceTy (tyRef erased imm (pointee (R .written)))) l₁₂ 0 (sliceVal (l₄, 0) m))) (sym (same-length ∙ long xs zeros)) refl $
+        rewrite ! 9 (λ (m : ℕ). ‵ (fat fullShare (sliceTy (tyRef erased imm (pointee (R .written)))) l₁₂ 0 (sliceVal (l₄, 0) m))) (sym (same-length ∙ long xs blanks)) refl $
         assigns ! (addr ! (from ! (fld ! refl (hop ! (look-in ! 26 (sub ! 0 refl (whole !))) (stop !))))) (from ! (stop !)) (init ! 7 refl (tt, tt)) $
         assigns ! (agg ! (and-then ! (load ! (from ! (stop !)) (look ! 7 refl)) (and-then ! (load ! (from ! (fld ! refl (stop !))) (look-in ! 26 (sub ! 1 refl (whole !)))) (no-more !)))) (from ! (stop !)) (init ! 5 refl (tt, (tt, (record { fits = room .0 }, tt)))) $
         -- it is lent again, shared, for a lifetime β
         feqI ! ℕ (length (ws .1 .1 .0)) (length (ws .1 .1 .0)) refl $ fjoin ! $ lft-new ! tt (λ β. move ! (1 ∷ []) $
-        use1 W (later (some (λ (δ : GName). ‵ (ShrSlice (named 0) (β ∷ []) R .own (lent l₄ δ (ws .1 .1 .0)) (s l₄ (ws .1 .1 .0) ∷ [])) ⊛ ‵ (flent (β ∷ []) (arr-parts (shares R) (length (ws .1 .1 .0)) .part fullShare (ws .1 .1 .0) l₄ 0))))) (lends-shr-slice 𝓤 H A W R (named 0) (β ∷ []) fullShare (ws .1 .1 .0) l₄ 0 (has-room (ws .1 .1 .0) (same-length ∙ long xs zeros))) $ await ! tt $ pick ! (λ δ. split ! $
-        -- [the numbers; the lender's part; β's token; capture's token; capture; fields' token; the run; _14; …]
+        use1 W (later (some (λ (δ : GName). ‵ (ShrSlice (named 0) (β ∷ []) R .own (lent l₄ δ (ws .1 .1 .0)) (s l₄ (ws .1 .1 .0) ∷ [])) ⊛ ‵ (flent (β ∷ []) (arr-parts (shares R) (length (ws .1 .1 .0)) .part fullShare (ws .1 .1 .0) l₄ 0))))) (lends-shr-slice 𝓤 H A W R (named 0) (β ∷ []) fullShare (ws .1 .1 .0) l₄ 0 (has-room (ws .1 .1 .0) (same-length ∙ long xs blanks))) $ await ! tt $ pick ! (λ δ. split ! $
+        -- [the records; the lender's part; β's token; capture's token; capture; rows' token; the rows; _14; …]
         move ! (2 ∷ 5 ∷ []) $ join ! $ move ! (1 ∷ 5 ∷ []) $ join ! $ move ! (1 ∷ 0 ∷ []) $ use2 W (raw (RowsOf 𝓤 H A mem″ run .pre (to-rows-of l₄ β δ (ws .1 .1 .0) (r .rows)))) (asks-rows-of l₄ β δ (ws .1 .1 .0) (r .rows) (rows-fit r r-is)) $
         calls-at ! fm (RowsOf 𝓤 H A mem″ run) known-rows-of (to-rows-of l₄ β δ (ws .1 .1 .0) (r .rows)) (and-then ! (load ! (from ! (stop !)) (look ! 8 refl)) (and-then ! (load ! (from ! (stop !)) (look ! 20 refl)) (and-then ! (load ! (from ! (stop !)) (look ! 4 refl)) (no-more !)))) (λ w.
         use1 W (later (some (λ (m : ℕ). ((‵ (flft (β ∷ []) fullShare) ⊛ (‵ (flft κ₁ q₁) ⊛ ‵ ftrue)) ⊛ ‵ (usize .own m (w ∷ []))) ⊛ raw (ensured 𝓤 H A rows-of.ended (rows-of.clauses 𝓤 H A mem″ run) ((β ∷ []), (κ₁, tt)) (for-rows-of l₄ δ (ws .1 .1 .0) (r .rows)) tt m)))) (id⊢ 𝓤 _) $ await ! tt $ pick ! (λ m.
         split ! $ move ! (1 ∷ []) $ use1 W (some (λ (vs : Unit {0} × (Unit {0} × (List ℤ × Unit {0}))). ‵ (lasts rows-of.ended ((β ∷ []), (κ₁, tt)) (for-rows-of l₄ δ (ws .1 .1 .0) (r .rows)) vs) ⊛ raw (fact 𝓤 ((m, vs .1 .1 .0) ≡ rowsWritten (ws .1 .1 .0) (r .rows) (os .now))))) (id⊢ 𝓤 _) $ pick ! (λ vs.
         split ! $ move ! (1 ∷ []) $ heard ! ((m, vs .1 .1 .0) ≡ rowsWritten (ws .1 .1 .0) (r .rows) (os .now)) (λ told. fsplit ! $ drop ! $ fsplit ! $ drop ! $ fsplit ! $ fsplit ! $ move ! (1 ∷ []) $ feqL ! (λ as-many.
         move ! (2 ∷ []) $ split ! $ move ! (1 ∷ []) $ peeks ! usize (Is usize) (shows 𝓤 H A usize) m (w ∷ []) (λ m-is. drop ! $
-        -- [the tokens of β and of fields; the last records; true; the lender's part; capture's token; capture; _14; …]
+        -- [the tokens of β and of rows; the last rows; true; the lender's part; capture's token; capture; _14; …]
         land ! (from ! (stop !)) (init ! 14 refl (uint-lawful 𝓤 H A W w64 .typed m _ m-is .0)) $
         -- β ends, and the array is room
-        split ! $ lft-end ! tt $ move ! (0 ∷ 4 ∷ []) $ lent-back ! tt $ fsplit ! $ drop ! $ use1 W (‵ (froom (tyArray (lone (R .mir)) N) l₄ 0)) (to-room 𝓤 H A W R tt machs tells N l₄ (ws .1 .1 .0) (same-length ∙ long xs zeros)) $
-        -- [_4; fields' token; the last records; true; capture's token; capture; _14; …; that _4 dies; _3; …; _0; …]
+        split ! $ lft-end ! tt $ move ! (0 ∷ 4 ∷ []) $ lent-back ! tt $ fsplit ! $ drop ! $ use1 W (‵ (froom (tyArray (lone (R .mir)) N) l₄ 0)) (to-room 𝓤 H A W R tt machs tells N l₄ (ws .1 .1 .0) (same-length ∙ long xs blanks)) $
+        -- [_4; rows' token; the last rows; true; capture's token; capture; _14; …; that _4 dies; _3; …; _0; …]
         assigns ! (of-opd ! (load ! (from ! (stop !)) (look ! 24 refl))) (from ! (stop !)) (init ! 33 refl (typed r (mach r) (made r r-is))) $
         returns ! (look ! 33 refl) $ forget ! 6 refl $ forget ! 8 refl $ forget ! 10 refl $ forget ! 12 refl $ forget ! 14 refl $ forget ! 16 refl $ forget ! 18 refl $ forget ! 20 refl $ forget ! 22 refl $ forget ! 24 refl $ forget ! 27 refl $ forget ! 29 refl $ forget ! 31 refl $ forget ! 33 refl $
         move ! (33 ∷ 34 ∷ []) $ free1 ! $ move ! (31 ∷ 32 ∷ []) $ free1 ! $ move ! (29 ∷ 30 ∷ []) $ free1 ! $ move ! (27 ∷ 28 ∷ []) $ free1 ! $ move ! (0 ∷ 26 ∷ []) $ free1 ! $ move ! (23 ∷ 24 ∷ []) $ free1 ! $ move ! (21 ∷ 22 ∷ []) $ free1 ! $ move ! (19 ∷ 20 ∷ []) $ free1 ! $ move ! (17 ∷ 18 ∷ []) $ free1 ! $ move ! (15 ∷ 16 ∷ []) $ free1 ! $ move ! (13 ∷ 14 ∷ []) $ free1 ! $ move ! (11 ∷ 12 ∷ []) $ free1 ! $ move ! (9 ∷ 10 ∷ []) $ free1 ! $ move ! (7 ∷ 8 ∷ []) $ free1 ! $ move ! (5 ∷ 6 ∷ []) $ free1 ! $ free0 ! $
-        keep ! (0 ∷ 1 ∷ 3 ∷ 4 ∷ []) $ by ! (exits r (vs .1 .1 .0) (made r r-is) (through-is zeros said told) as-many))))))))))))))))))))))))))))))))))))
+        keep ! (0 ∷ 1 ∷ 3 ∷ 4 ∷ []) $ by ! (exits r (vs .1 .1 .0) (made r r-is) (through-is blanks said told) as-many))))))))))))))))))))))))))))))))))))
 
 module _ {M : Type 1} (𝓤 : URA M) (H : Heap 𝓤) (A : Atoms 𝓤) (W : Given 𝓤 H A) (mem″ : Memory → SProp 𝓤) (run : Routine → Fun 𝓤) (𝓣 : Tables 𝓤 H) (known-none : Triple 𝓤 (𝓣 .C #fields·no-fields) (None 𝓤 H A mem″ run))
     (known-parse : Triple 𝓤 (𝓣 .C #fields·parse-fields) (Parse 𝓤 H A mem″ run)) (known-rows-of : Triple 𝓤 (𝓣 .C #fields·rows-of) (RowsOf 𝓤 H A mem″ run)) where

@@ -10,6 +10,7 @@ use Rattle.syntax.specs.declared.Role.{Role}
 use Rattle.syntax.specs.declared.Role.the-variants.{Plain, Sync, Crc1, Crc2, CrcRsv, FrameSize, Dialnorm, ComprExists, Compr, DynrngExists, Dynrng, Skiple, Skipl, Skipfld, Addbsi, Mantissas, AuxBits, AuxDataL, AuxDataE, BlkStrtInfoE, BlkStrtInfo}
 use Rattle.ac3.specs.Frame.{answer}
 use Rattle.ac3.specs.Promise.{Call, call, listed, answerTo}
+use Rattle.ac3.specs.RowBound.{mostRows}
 use Rattle.ac3.specs.declared.Answer.{Answer}
 use Rattle.fields.specs.declared.Field.{Field}
 
@@ -109,3 +110,9 @@ abbrev pub parsed : (capture : List ℕ) (place : ℕ) (run : List Field) → An
 parsed capture place run =
     let c = callFor capture place (length run) in
     (answerTo c .0, map recordOf (listed c) ++ drop (length (listed c)) run)
+
+-- the same answer with room for as many rows as a frame can have, and the rows of the records in front of the lent ones
+abbrev pub parsedThrough : (capture : List ℕ) (place : ℕ) (rows : List ℤ) → Answer × List ℤ
+parsedThrough capture place rows =
+    let told = parsed capture place (replicate mostRows blank) in
+    (told .0, rowsWritten (told .1) (told .0 .rows) rows .1)

@@ -13,7 +13,7 @@ ghost use lib.IntN.{pos};
 ghost use lib.Seq.{sets};
 ghost use Rattle.syntax.specs.Numbers.{rowWidth};
 ghost use Rattle.ac3.specs.RowBound.{mostRows};
-ghost use Rattle.fields.specs.Fields.{programmeOf, roleOf, fieldOf, rowOf, rowAt, fieldAt, filled, fitting, offered, rowsWritten, answerWithin, parsed};
+ghost use Rattle.fields.specs.Fields.{programmeOf, roleOf, fieldOf, rowOf, rowAt, fieldAt, filled, fitting, offered, rowsWritten, answerWithin, parsed, blank, parsedThrough};
 
 // The numbers of the most rows that a frame can have.
 const NUMBERS: usize = MOST_ROWS * ROW;
@@ -163,6 +163,14 @@ fn put_row(rows: &mut [i32], i: usize, row: [i32; ROW])
     rows[at + 7] = row[7];
 }
 
+// As many records as a frame can have rows, all of a row of zeros.
+fn no_fields() -> [Field; MOST_ROWS]
+    ensures { λ r. ⌜ r ≡ replicate mostRows blank ⌝ }
+{
+    let field = field_of([0i32; ROW]);
+    [field; MOST_ROWS]
+}
+
 // ---- by hand: functions with a run of records
 
 // The first rows, as records, in front of the run.
@@ -209,5 +217,17 @@ pub fn parse_fields(capture: &[u8], place: usize, fields: &mut [Field]) -> Answe
     let answer = parse_within(fields.len(), capture, place, &mut rows);
     let count = answer.rows;
     offer(&rows, count, fields);
+    answer
+}
+
+// The frame that starts at a place of a capture, read into records; its rows are made of those. It exists so that records are run, not only
+// proved: crate `replay` holds these rows against the judge's.
+pub fn parse_through(capture: &[u8], place: usize, rows: &mut [i32]) -> Answer
+    ensures { λ r. ⌜ (r, now (rows .exit)) ≡ parsedThrough (now (capture .entry)) place (now (rows .entry)) ⌝ }
+{
+    let mut fields = no_fields();
+    let answer = parse_fields(capture, place, &mut fields);
+    let count = answer.rows;
+    rows_of(&fields, count, rows);
     answer
 }

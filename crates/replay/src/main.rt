@@ -83,11 +83,16 @@ fn same(answer: &[i32; ANSWER], said: &[u8; SAID]) -> bool {
     true
 }
 
-// Whether a call answers as the list says.
+// Whether a call answers as the list says, and rows that are made of the frame's records are the same.
 fn as_said(capture: &[u8], place: usize, room: &mut [i32], said: &[u8; SAID]) -> bool {
     mark(room);
     let mut answer = [0i32; ANSWER];
     ferrysprig::ferrysprig_parse(capture, place, room, &mut answer);
+    if checksum(room) != number_at(said, 4 * ANSWER) {
+        return false;
+    }
+    mark(room);
+    fields::parse_through(capture, place, room);
     if checksum(room) != number_at(said, 4 * ANSWER) {
         return false;
     }

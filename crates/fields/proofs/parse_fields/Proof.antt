@@ -31,7 +31,7 @@ use denote.Laws.{Is, Tells, Makes, shows}
 use denote.Array.{Array, array-lawful}
 use denote.Memory.{mem, shares}
 use denote.Plain.{uint-vals, uint-tells, uint-makes, uint-lawful}
-use denote.Signed.{sint-lawful}
+use denote.Signed.{sint-vals, sint-tells, sint-lawful}
 use denote.Builtin.{u8, i32, usize}
 use denote.Ref.{RefT}
 use denote.Slice.{sliceTy, sliceVal, ShrSlice, MutSlice, Room, finally, slice-vals, shr-slice-tells, shr-slice-copy, mut-slice-tells}
@@ -236,7 +236,7 @@ module _ {M : Type 1} (𝓤 : URA M) (H : Heap 𝓤) (A : Atoms 𝓤) (W : Given
         assigns ! (agg ! (and-then ! (load ! (from ! (stop !)) (look ! 13 refl)) (and-then ! (big-lit ! (record { fits = lit< tt })) (no-more !)))) (from ! (stop !)) (init ! 11 refl (tt, (tt, (record { fits = lit< tt }, tt)))) $
         rewrite ! 11 (λ (m : ℕ). ‵ (fat fullShare (sliceTy (tyRef erased mut (tyInt w32))) l₁₀ 0 (sliceVal (l₄, 0) m))) (sym (long xs zeros)) refl $
         -- it is lent for a lifetime α
-        move ! (23 ∷ 0 ∷ []) $ use2 W (‵ (cells (mem i32) xs l₄ 0)) (to-run 𝓤 H A W N l₄ xs u) $ lft-new ! tt (λ α. move ! (1 ∷ []) $
+        move ! (23 ∷ 0 ∷ []) $ use2 W (‵ (cells (mem i32) xs l₄ 0)) (to-run 𝓤 H A W i32 tt (sint-vals w32) (sint-tells w32) N l₄ xs u) $ lft-new ! tt (λ α. move ! (1 ∷ []) $
         use1 W (later (some (λ (γ : GName). ‵ (MutSlice (named 1) (α ∷ []) i32 .own (lent l₄ γ xs) (s l₄ xs ∷ [])) ⊛ ‵ (flent (α ∷ []) (Held i32 (length xs) l₄ 0 γ))))) (lends-slice 𝓤 H A W i32 (named 1) (α ∷ []) xs l₄ 0 (has-room xs (long xs zeros))) $ await ! tt $ pick ! (λ γ. split ! $
         -- [the numbers; the lender's part; α's token; the run; capture; _14; …; that _4 dies; _3; …; the tokens]
         move ! (34 ∷ []) $ split ! $ move ! (6 ∷ []) $ use1 W (‵ Own ⊛ ‵ Own) (shr-slice-copy 𝓤 H A W (named 0) κ₀ u8 .twice cs (c-val ∷ [])) $ split ! $ move ! (2 ∷ 6 ∷ 0 ∷ 4 ∷ []) $
@@ -271,7 +271,7 @@ module _ {M : Type 1} (𝓤 : URA M) (H : Heap 𝓤) (A : Atoms 𝓤) (W : Given
         -- [the tokens of β and of fields; the last records; true; the lender's part; capture's token; capture; _14; …]
         land ! (from ! (stop !)) (store ! 18 refl (uint-lawful 𝓤 H A W w64 .typed m _ m-is .0)) $
         -- β ends, and the array is room
-        split ! $ lft-end ! tt $ move ! (0 ∷ 4 ∷ []) $ lent-back ! tt $ fsplit ! $ drop ! $ use1 W (‵ (froom (tyArray (tyInt w32) N) l₄ 0)) (to-room 𝓤 H A W N l₄ (ws .1 .1 .1 .0) (same-length ∙ long xs zeros)) $
+        split ! $ lft-end ! tt $ move ! (0 ∷ 4 ∷ []) $ lent-back ! tt $ fsplit ! $ drop ! $ use1 W (‵ (froom (tyArray (tyInt w32) N) l₄ 0)) (to-room 𝓤 H A W i32 tt (sint-vals w32) (sint-tells w32) N l₄ (ws .1 .1 .1 .0) (same-length ∙ long xs zeros)) $
         -- [_4; fields' token; the last records; true; capture's token; capture; _14; …; that _4 dies; _3; …; _0; …]
         assigns ! (of-opd ! (load ! (from ! (stop !)) (look ! 24 refl))) (from ! (stop !)) (init ! 33 refl (typed r (mach r) (made r r-is))) $
         returns ! (look ! 33 refl) $ forget ! 6 refl $ forget ! 8 refl $ forget ! 10 refl $ forget ! 12 refl $ forget ! 14 refl $ forget ! 16 refl $ forget ! 18 refl $ forget ! 20 refl $ forget ! 22 refl $ forget ! 24 refl $ forget ! 27 refl $ forget ! 29 refl $ forget ! 31 refl $ forget ! 33 refl $

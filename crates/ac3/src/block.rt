@@ -111,14 +111,16 @@ fn one_more_if(count: u8, more: bool) -> u8
 }
 
 // The first block with coupling decides whether coordinates were sent.
-fn sent_so_far(cplinu: bool, sent: bool, t: Tally) -> bool
-    ensures { λ r. ⌜ r ≡ cond (cplinu && eqb (t .coupled) 0) sent (t .coordinates) ⌝ }
+fn is_first(cplinu: bool, coupled: u8) -> bool
+    ensures { λ r. ⌜ r ≡ (cplinu && eqb coupled 0) ⌝ }
 {
-    if cplinu && t.coupled == 0 {
-        sent
-    } else {
-        t.coordinates
-    }
+    cplinu && coupled == 0
+}
+
+fn sent_so_far(first: bool, sent: bool, before: bool) -> bool
+    ensures { λ r. ⌜ r ≡ cond first sent before ⌝ }
+{
+    if first { sent } else { before }
 }
 
 fn counted(blk: u8, start: u16, mantissas: u16, cplinu: bool, sent: bool, t: Tally) -> Tally
@@ -133,7 +135,7 @@ fn counted(blk: u8, start: u16, mantissas: u16, cplinu: bool, sent: bool, t: Tal
     mantissa_starts[at] = mantissas;
     Tally {
         coupled: one_more_if(t.coupled, cplinu),
-        coordinates: sent_so_far(cplinu, sent, t),
+        coordinates: sent_so_far(is_first(cplinu, t.coupled), sent, t.coordinates),
         starts,
         mantissas: mantissa_starts,
     }

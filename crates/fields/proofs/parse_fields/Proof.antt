@@ -48,6 +48,7 @@ use denote.Triple.Spec.{Meets, tripleOf}
 use denote.Triple.Table.{entered, cited}
 use denote.Triple.Walked.{says, Stays, gave-slice, stay-none, stay-none-slice, walkOf, goes-gave-slice, goes-none, goes-none-slice, Walks, ends-at, walked, walk-meets}
 use denote.Exit.{yes}
+use Rattle.syntax.specs.Numbers.{rowWidth}
 use Rattle.ac3.specs.RowBound.{mostRows}
 use Rattle.ac3.specs.declared.Answer.{Answer}
 use Rattle.ac3.proofs.Answer as Ans
@@ -89,7 +90,7 @@ tells = LL.tells Ans.the-type Ans′.the-laws
 
 -- the local's numbers: how many, and that they have room
 abbrev N : ℕ
-N = mostRows * 8
+N = mostRows * rowWidth
 
 abbrev Zeros : List ℤ → Type 0
 Zeros xs = xs ≡ replicate N (pos 0)
@@ -242,8 +243,8 @@ module _ {M : Type 1} (𝓤 : URA M) (H : Heap 𝓤) (A : Atoms 𝓤) (W : Given
         join ! $ move ! (1 ∷ 2 ∷ []) $ join ! $ move ! (1 ∷ 0 ∷ []) $ use2 W (raw (Within 𝓤 H A mem″ run .pre (to-within l₄ α γ xs))) (asks-within l₄ α γ xs) $
         calls-at ! fm (Within 𝓤 H A mem″ run) known-within (to-within l₄ α γ xs) (and-then ! (load ! (from ! (stop !)) (look ! 17 refl)) (and-then ! (load ! (from ! (stop !)) (look ! 30 refl)) (and-then ! (load ! (from ! (stop !)) (look ! 28 refl)) (and-then ! (load ! (from ! (stop !)) (look ! 13 refl)) (no-more !))))) (λ v.
         use1 W (later (some (λ (r : Answer). ((‵ (flft κ₀ q₀) ⊛ (‵ (flft (α ∷ []) fullShare) ⊛ ‵ ftrue)) ⊛ ‵ (RA .own r (v ∷ []))) ⊛ raw (ensured 𝓤 H A within.ended (within.clauses 𝓤 H A mem″ run) (κ₀, ((α ∷ []), tt)) (for-within l₄ γ xs) tt r)))) (id⊢ 𝓤 _) $ await ! tt $ pick ! (λ r.
-        split ! $ move ! (1 ∷ []) $ use1 W (some (λ (ws : Unit {0} × (Unit {0} × (Unit {0} × (List ℤ × Unit {0})))). ‵ (lasts within.ended (κ₀, ((α ∷ []), tt)) (for-within l₄ γ xs) ws) ⊛ raw (fact 𝓤 ((r, ws .1 .1 .1 .0) ≡ answerWithin (min size (length xs / 8)) (cs .now) place xs)))) (id⊢ 𝓤 _) $ pick ! (λ ws.
-        split ! $ move ! (1 ∷ []) $ heard ! ((r, ws .1 .1 .1 .0) ≡ answerWithin (min size (length xs / 8)) (cs .now) place xs) (λ said. fsplit ! $ drop ! $ fsplit ! $ drop ! $ fsplit ! $ drop ! $ fsplit ! $ fsplit ! $ move ! (1 ∷ []) $ feqL ! (λ same-length.
+        split ! $ move ! (1 ∷ []) $ use1 W (some (λ (ws : Unit {0} × (Unit {0} × (Unit {0} × (List ℤ × Unit {0})))). ‵ (lasts within.ended (κ₀, ((α ∷ []), tt)) (for-within l₄ γ xs) ws) ⊛ raw (fact 𝓤 ((r, ws .1 .1 .1 .0) ≡ answerWithin (min size (length xs / rowWidth)) (cs .now) place xs)))) (id⊢ 𝓤 _) $ pick ! (λ ws.
+        split ! $ move ! (1 ∷ []) $ heard ! ((r, ws .1 .1 .1 .0) ≡ answerWithin (min size (length xs / rowWidth)) (cs .now) place xs) (λ said. fsplit ! $ drop ! $ fsplit ! $ drop ! $ fsplit ! $ drop ! $ fsplit ! $ fsplit ! $ move ! (1 ∷ []) $ feqL ! (λ same-length.
         move ! (2 ∷ []) $ split ! $ split ! $ move ! (1 ∷ []) $ split ! $ move ! (3 ∷ []) $ peeks ! RA (Is RA) (shows 𝓤 H A RA) r (v ∷ []) (λ r-is. drop ! $
         -- [α's token; true; capture's token; the last numbers; true; capture; fields' token; the lender's part; the run; _14; …]
         land ! (from ! (stop !)) (init ! 27 refl (typed r v r-is)) $ rewrite ! 27 (λ (x : Val). ‵ (fat fullShare Ans′.mir l₅ 0 x)) (ap only (tells r (v ∷ []) r-is)) refl $

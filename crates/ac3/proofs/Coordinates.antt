@@ -1,20 +1,18 @@
 -- No section of a block is handed the flag, so blocks from what is carried with another flag are the same grammar, but for the flag in the
 -- answer. Assumes nothing.
-use mathlib.Core.Bool.{Bool, false}
+use mathlib.Core.Bool.{false}
 use mathlib.Core.List.{List}
 use mathlib.Core.Path.{_≡_, refl, ap, sym, _∙_}
 use Prim.Native.Nat.{ℕ, zero, suc, _+_}
-use lib.IntN.{ℤ}
 use Rattle.syntax.specs.Grammar.{Grammar, done, _>>=_, turns}
 use Rattle.syntax.specs.Place.{Place, Outcome, got, no, andThen, exec, fresh}
 use Rattle.syntax.proofs.Bind.{exec-bind}
 use Rattle.header.specs.Header.{header}
 use Rattle.header.specs.declared.Header.{Header}
 use Rattle.ac3.specs.AudioBlock.{Carry, audioBlock}
-use Rattle.ac3.specs.Coordinates.{flagged, flaggedCarry, flaggedAnswer, Rule, blockBy, audioBy, frameBy, answerBy, CoordinatesIdle}
+use Rattle.ac3.specs.Coordinates.{flagged, flaggedCarry, flaggedAnswer, Rule, blockBy, audioBy, frameBy, CoordinatesIdle}
 use Rattle.ac3.specs.Frame.{Audio, audio, syncframe, answered}
-use Rattle.ac3.specs.Promise.{Call, input, answerTo}
-use Rattle.ac3.specs.declared.Answer.{Answer}
+use Rattle.ac3.specs.Promise.{input}
 use Rattle.ac3.proofs.AtMost.{regroup}
 
 -- ---- grammars whose answers are looked at through a function

@@ -17,7 +17,7 @@ use Rattle.syntax.specs.Run.{Row, Spot, End, reached, refused, Result, Check, c
 use Rattle.syntax.proofs.Checks.{room-some, clear-room}
 use Rattle.ac3.specs.Frame.{Audio, syncframe, answered}
 use Rattle.ac3.specs.MoreRoom.{SameList, SameAnswer, MoreRoom}
-use Rattle.ac3.specs.Promise.{Call, input, roomFor, withRoom, listed, answerTo}
+use Rattle.ac3.specs.Promise.{Call, input, roomFor, withRoom, answerTo}
 use Rattle.ac3.specs.RowBound.{mostRows}
 use Rattle.ac3.proofs.Promise.{result, landed, answer-is}
 use Rattle.ac3.proofs.Rooms.{rows-are, same-answer}

@@ -1,7 +1,7 @@
 -- No part of the definition: what can be said of a grammar by looking through it, and words for it that statements use. Exactly the
 -- editable names are read as values that steer nothing, exactly the spans as spans, by name and by role, and every refusal has one of the
 -- twenty numbers.
-use mathlib.Core.Bool.{Bool, true, false, not, _&&_, _||_}
+use mathlib.Core.Bool.{Bool, false, not, _&&_, _||_}
 use mathlib.Core.List.{List, [], _∷_}
 use Prim.Native.Nat.{ℕ}
 use lib.Dec.{T, eqb, leb}

@@ -2,7 +2,7 @@
 -- piece is a slot's, so that the bits of a group count to the slot of its first member. `proofs/BySlot.antt` proves `BitsBySlot`.
 use mathlib.Core.Bool.{Bool, false, _||_, cond}
 use mathlib.Core.List.{List, [], _∷_}
-use mathlib.Core.Path.{_≡_, refl}
+use mathlib.Core.Path.{_≡_}
 use Prim.Native.Nat.{ℕ, _+_, _-_, _≤_}
 use lib.Dec.{eqb}
 use lib.IntN.{ℤ}
@@ -16,7 +16,7 @@ use Rattle.slots.specs.declared.AllocState.{AllocState}
 use Rattle.slots.specs.declared.Coupling.{Coupling}
 use Rattle.mantissas.specs.Counts.{noCounts, countedAll, plus, widthOf, openAfter}
 use Rattle.mantissas.specs.Mantissas.{noneOpen, widths, silent, partPointers, allPointers, mantissas}
-use Rattle.mantissas.specs.Parts.{part, parts}
+use Rattle.mantissas.specs.Parts.{parts}
 use Rattle.mantissas.specs.declared.Counts.{Counts}
 use Rattle.mantissas.specs.declared.Part.{Part}
 
@@ -71,9 +71,3 @@ pub record BitsBySlot : Type 0 where
   -- so a slot's bits follow from the counts of each slot by itself
   pub counted : (slot fscod : ℕ) (st : AllocState) (exps : List (List ℤ)) (isSilent : Bool) (ps : List Part)
       → bitsIn slot ps (widths noneOpen (allPointers fscod st exps isSilent ps)) ≡ grownIn slot (ownCounts fscod st exps isSilent) noCounts ps
-
--- ---- an example: two channels of three bins each; the group of ones and the first pair of fours are begun in channel 0, the second pair in
--- channel 1
-shared : bySlot (part 0 0 3 ∷ part 1 0 3 ∷ []) (widths noneOpen (1 ∷ 1 ∷ 4 ∷ 1 ∷ 4 ∷ 4 ∷ [])) ≡ 12 ∷ 7 ∷ 0 ∷ 0 ∷ 0 ∷ 0 ∷ 0 ∷ []
-unfolding bySlot bitsIn from sum widths
-shared = refl

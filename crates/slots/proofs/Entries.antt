@@ -10,6 +10,7 @@ use lib.IntN.{ℤ, pos}
 use lib.Signed.{_≤ℤ_}
 use lib.ListN.{length, getD, set, replicate, length-replicate}
 use lib.Seq.{sets}
+use Rattle.naturals.proofs.Stored.{sets-append}
 use Rattle.slots.specs.Slots.{noDeltas}
 use Rattle.slots.specs.Sound.{Entries, SoundRow, SoundExps, SoundCodes, SoundSegments, SoundDeltas}
 
@@ -44,12 +45,6 @@ zeros-below k {n} h = every-replicate (λ x. x < n) 0 k 0 h h
 
 pub set-below : (l : List ℕ) {n : ℕ} → Entries l n → (at v : ℕ) → v < n → Entries (set l at v) n
 set-below l {n} = every-set (λ x. x < n) 0 l
-
--- ---- stores in a row
-
-sets-append : {A : Type 0} (vs ws l : List A) (i j : ℕ) → i + length vs ≡ j → sets l i (vs ++ ws) ≡ sets (sets l i vs) j ws
-sets-append [] ws l i j e = rw (← e, add-zero i)
-sets-append (v ∷ vs) ws l i j e = sets-append vs ws (set l i v) (suc i) j (suc-add i (length vs) ∙ sym (add-suc i (length vs)) ∙ e)
 
 pub sets-three : {A : Type 0} (n : ℕ) (l : List A) (at : ℕ) (x y z : A)
     → sets (sets (sets l at (replicate n x)) (at + n) (replicate n y)) (at + n + n) (replicate n z) ≡ sets l at (replicate n x ++ replicate n y ++ replicate n z)

@@ -1,7 +1,7 @@
 /* list [FILE]: lists one frame from a file or from standard input: the numbers of each row, and a last line, `audio ROWS BYTES AUDIO_END`
    or `refused NUMBER ROWS BIT`, which a message then explains. At most 3,840 bytes are read. The exit status is 0 if the frame was
    accepted, 1 if it was refused, 2 if the program was called wrongly, could not read or could not print. (The proved listing program, which
-   tools/list runs, has room for 2,048 rows; this one has room for every frame's.) */
+   tools/list runs, has room for fewer rows than some frames have; this one has room for every frame's.) */
 #include "ferrysprig.h"
 #include <errno.h>
 #include <inttypes.h>

@@ -30,7 +30,7 @@ SLIPS = [  # what, file, old, new
     ('no row for spans of width 0', MOD, RECORD, '        if width == 0 { return Ok(()); }\n' + RECORD),
     ('the place counted in positions', MOD, '    let verdict = ac3::parse(&mut cur);', '    let verdict = ac3::parse(&mut cur);\n    cur.pos += if verdict.is_err() { place.min(1) } else { 0 };'),
     ('programme of dynrng2 is 0', 'src/names.rs', 'Role::Dynrng(p) => (10, i32::from(p))', 'Role::Dynrng(_) => (10, 0)'),
-    ('index of coupling delta segments is 0', MOD, '            index.into(),', '            if name == "cpldeltoffst" { 0 } else { index.into() },'),
+    ('index of coupling delta segments is 0', MOD, '            index,\n', '            index: if name == "cpldeltoffst" { 0 } else { index },\n'),
     ('coordinates judged in the last coupled block', CUT, 'if cpl_blocks == 1 {', 'if cpl_blocks >= 1 {'),
     ('blocks with a new strategy counted', CUT, '            cpl_blocks += 1;', '            cpl_blocks += usize::from(cplstre);'),
     # order and limits of judgements

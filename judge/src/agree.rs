@@ -6,8 +6,8 @@ use crate::ac3;
 use crate::cut::{answer, Answer, MANY_ROWS};
 use crate::error::Error;
 use crate::hex;
-use crate::names::{self, role_numbers, ROW};
-use crate::syntax::Field;
+use crate::layout::{row, row_at, ROW};
+use crate::names;
 use std::rc::Rc;
 
 /// An input's answer with ample room, and the rows written there.
@@ -93,20 +93,6 @@ pub enum Room {
     Sufficient { left_over: usize },
 }
 
-fn row(f: &Field) -> [i32; ROW] {
-    let (role, programme) = role_numbers(f.role);
-    [
-        names::number(f.name),
-        role,
-        programme,
-        f.block.into(),
-        f.index.into(),
-        f.pos as i32,
-        f.width as i32,
-        f.value as i32,
-    ]
-}
-
 fn same<T: PartialEq + std::fmt::Debug>(what: &str, ours: T, published: T) -> Result<(), String> {
     if ours == published {
         Ok(())
@@ -119,10 +105,10 @@ fn agrees_with_published(ample: &Ample, data: &[u8]) -> Result<(), String> {
     let Ample { answer: got, rows } = ample;
     let mut end = 0;
     for row in rows.chunks(ROW) {
-        if !names::fits(row) || row[5] != end {
+        if !names::fits(row) || row[row_at::POS] != end {
             return Err(format!("row {row:?} at bit {end}"));
         }
-        end = row[5] + row[6];
+        end = row[row_at::POS] + row[row_at::WIDTH];
     }
     match (&got.verdict, ac3::parse(data)) {
         (Ok(s), Ok(f)) => {
@@ -192,11 +178,11 @@ fn coordinates_sent(rows: &[i32]) -> bool {
     let (cplinu, cplcoe) = (names::number("cplinu"), names::number("cplcoe"));
     let first_coupled = rows
         .chunks(ROW)
-        .find(|row| row[0] == cplinu && row[7] == 1)
-        .map(|row| row[3]);
+        .find(|row| row[row_at::NAME] == cplinu && row[row_at::VALUE] == 1)
+        .map(|row| row[row_at::BLOCK]);
     rows.chunks(ROW)
-        .filter(|row| row[0] == cplcoe && Some(row[3]) == first_coupled)
-        .all(|row| row[7] == 1)
+        .filter(|row| row[row_at::NAME] == cplcoe && Some(row[row_at::BLOCK]) == first_coupled)
+        .all(|row| row[row_at::VALUE] == 1)
 }
 
 /// The answer with this room is the one with ample room, or refusal 7 where the rows end.
@@ -209,8 +195,8 @@ fn entailed(ample: &Ample, answer: &Answer, room: &[i32]) -> Result<(), String> 
         (ample.answer.number(), ample.answer.rows, ample.answer.bit)
     } else {
         let missing = &ample.rows[ROW * limit..][..ROW];
-        let walked = missing[0] == names::number("mantissas");
-        let bit = missing[5] + if walked { missing[6] } else { 0 };
+        let walked = missing[row_at::NAME] == names::number("mantissas");
+        let bit = missing[row_at::POS] + if walked { missing[row_at::WIDTH] } else { 0 };
         (7, limit, bit as usize)
     };
     same(

@@ -5,7 +5,8 @@
 //! refusal (0: none), rows of the parse, bytes written to the output. A refusal writes no byte.
 
 use crate::cut::{self, Summary};
-use crate::names::{number, ROW};
+use crate::layout::{row_at, BurstAnswer, ROW};
+use crate::names::number;
 
 /// Bytes of a burst.
 pub const BURST: usize = 6144;
@@ -33,7 +34,7 @@ struct Frame<'a> {
 }
 
 /// The frame at `place`, or the answer of its refusal.
-fn frame<'a>(capture: &'a [u8], place: usize, room: &mut [i32]) -> Result<Frame<'a>, [i32; 3]> {
+fn frame<'a>(capture: &'a [u8], place: usize, room: &mut [i32]) -> Result<Frame<'a>, BurstAnswer> {
     let parsed = cut::answer(capture, place, room);
     let rows = parsed.rows as i32;
     match parsed.verdict {
@@ -42,8 +43,14 @@ fn frame<'a>(capture: &'a [u8], place: usize, room: &mut [i32]) -> Result<Frame<
             let bytes = &capture[place..place + length];
             // The three bits before acmod; the row of that name says the same.
             let bsmod = u16::from(bytes[5] & 7);
-            let of_name = room.chunks(ROW).find(|row| row[0] == number("bsmod"));
-            assert_eq!(of_name.map(|row| row[7]), Some(bsmod.into()), "bsmod's row");
+            let of_name = room
+                .chunks(ROW)
+                .find(|row| row[row_at::NAME] == number("bsmod"));
+            assert_eq!(
+                of_name.map(|row| row[row_at::VALUE]),
+                Some(bsmod.into()),
+                "bsmod's row"
+            );
             Ok(Frame { rows, bytes, bsmod })
         }
     }
@@ -55,7 +62,7 @@ fn word(burst: &[u8], i: usize) -> u16 {
 }
 
 /// Writes the frame at byte `place` of `capture` as a burst into the front of `out`.
-pub fn write(capture: &[u8], place: usize, room: &mut [i32], out: &mut [u8]) -> [i32; 3] {
+pub fn write(capture: &[u8], place: usize, room: &mut [i32], out: &mut [u8]) -> BurstAnswer {
     let frame = match frame(capture, place, room) {
         Ok(frame) => frame,
         Err(refused) => return refused,
@@ -75,7 +82,7 @@ pub fn write(capture: &[u8], place: usize, room: &mut [i32], out: &mut [u8]) -> 
 }
 
 /// Writes the frame of `burst` into the front of `out`.
-pub fn read(burst: &[u8], room: &mut [i32], out: &mut [u8]) -> [i32; 3] {
+pub fn read(burst: &[u8], room: &mut [i32], out: &mut [u8]) -> BurstAnswer {
     if burst.len() != BURST {
         return [NOT_A_BURST, 0, 0];
     }

@@ -7,9 +7,9 @@ use crate::agree::untouched;
 use crate::burst::{read, write, BURST, WORDS};
 use crate::cases::{self, Amounts};
 use crate::craft::{sized, small};
-use crate::cut::{answer, MANY_ROWS};
+use crate::cut::{answer, MANY_ROWS, REFUSALS};
 use crate::frames;
-use crate::names::ROW;
+use crate::layout::{BurstAnswer, ROW};
 use crate::rng::Rng;
 use crate::tables::ac3_frame_words;
 use std::collections::BTreeMap;
@@ -28,7 +28,7 @@ impl Asked<'_> {
     }
 
     /// Asks the judge.
-    pub fn judge(&self, room: &mut [i32], out: &mut [u8]) -> [i32; 3] {
+    pub fn judge(&self, room: &mut [i32], out: &mut [u8]) -> BurstAnswer {
         match *self {
             Asked::Write { capture, place } => write(capture, place, room, out),
             Asked::Read { burst } => read(burst, room, out),
@@ -39,7 +39,7 @@ impl Asked<'_> {
 /// One call and the judge's answer: three numbers, and every number of the room and byte of the output after the call.
 pub struct Case<'a> {
     pub asked: Asked<'a>,
-    pub answer: [i32; 3],
+    pub answer: BurstAnswer,
     pub room: &'a [i32],
     pub out: &'a [u8],
 }
@@ -57,13 +57,14 @@ pub fn fresh(numbers: usize, bytes: usize) -> (Vec<i32>, Vec<u8>) {
     )
 }
 
-/// The frame's own refusals are 1 to this.
-pub const OWN: i32 = 20;
-
 /// Refusals, and 0 for none, that each function must be seen to give. A burst has 6,136 bytes for a frame of at most 3,840, so reading
 /// never gives 1 or 4.
 pub fn required() -> [Vec<i32>; 2] {
-    let own = |never: &[i32]| (0..=OWN).filter(|n| !never.contains(n)).collect::<Vec<_>>();
+    let own = |never: &[i32]| {
+        (0..=REFUSALS)
+            .filter(|n| !never.contains(n))
+            .collect::<Vec<_>>()
+    };
     [
         [own(&[]), vec![28]].concat(),
         [own(&[1, 4]), vec![28, 30, 31, 32, 33, 34]].concat(),
@@ -130,7 +131,7 @@ impl<'s> Bursts<'s> {
     }
 
     /// One call. Gives the answer and the output after it.
-    fn ask(&mut self, asked: Asked<'_>, numbers: usize, bytes: usize) -> ([i32; 3], Vec<u8>) {
+    fn ask(&mut self, asked: Asked<'_>, numbers: usize, bytes: usize) -> (BurstAnswer, Vec<u8>) {
         let (mut room, mut out) = fresh(numbers, bytes);
         let answer = asked.judge(&mut room, &mut out);
         *self.refused[asked.function()].entry(answer[0]).or_default() += 1;
@@ -145,7 +146,7 @@ impl<'s> Bursts<'s> {
         (answer, out)
     }
 
-    fn read(&mut self, attempt: &Attempt) -> [i32; 3] {
+    fn read(&mut self, attempt: &Attempt) -> BurstAnswer {
         let burst = &attempt.burst;
         self.ask(Asked::Read { burst }, attempt.numbers, attempt.bytes)
             .0

@@ -10,8 +10,9 @@ use crate::craft::small;
 use crate::draw::{accepted, Style};
 use crate::frames;
 use crate::goals::{Counts, SEVEN, SIX};
+use crate::layout::{row_at, ROW};
 use crate::moving::moved;
-use crate::names::{self, ROW};
+use crate::names;
 use crate::rng::Rng;
 use std::collections::BTreeSet;
 use std::rc::Rc;
@@ -273,9 +274,12 @@ impl<'s> Generator<'s> {
     ) -> Option<(usize, &'a [i32])> {
         let all = rows.chunks(ROW).enumerate();
         let all: Vec<(usize, &[i32])> = all.filter(|(_, r)| wanted(r)).collect();
-        let names: BTreeSet<i32> = all.iter().map(|(_, r)| r[0]).collect();
+        let names: BTreeSet<i32> = all.iter().map(|(_, r)| r[row_at::NAME]).collect();
         let name = *names.iter().nth(self.rng.below(names.len().max(1)))?;
-        let of_name: Vec<_> = all.into_iter().filter(|(_, r)| r[0] == name).collect();
+        let of_name: Vec<_> = all
+            .into_iter()
+            .filter(|(_, r)| r[row_at::NAME] == name)
+            .collect();
         Some(of_name[self.rng.below(of_name.len())])
     }
 
@@ -284,14 +288,16 @@ impl<'s> Generator<'s> {
         let steering = self.steering.clone();
         for _ in 0..times {
             let any = self.rng.chance(10);
-            let wanted =
-                |r: &[i32]| !names::of(r[0]).role.is_span() && (any || steering.contains(&r[0]));
+            let wanted = |r: &[i32]| {
+                !names::of(r[row_at::NAME]).role.is_span()
+                    && (any || steering.contains(&r[row_at::NAME]))
+            };
             let Some((_, row)) = self.pick(rows, wanted) else {
                 return;
             };
-            let (at, mut width) = (row[5] as usize, row[6] as usize);
+            let (at, mut width) = (row[row_at::POS] as usize, row[row_at::WIDTH] as usize);
             let mut value = match width {
-                1 => 1 - row[7] as u32,
+                1 => 1 - row[row_at::VALUE] as u32,
                 _ => self.rng.below(1 << width) as u32,
             };
             if self.rng.chance(25) && at + 24 <= 8 * capture.len() {
@@ -304,17 +310,19 @@ impl<'s> Generator<'s> {
     /// Room that ends just before a row: every other time one of the name met least so far.
     fn full_at(&mut self, capture: &[u8], rows: &[i32], times: usize) {
         for i in 0..times {
-            let met = |r: &[i32]| self.counts.of((SEVEN, r[0], 0));
+            let met = |r: &[i32]| self.counts.of((SEVEN, r[row_at::NAME], 0));
             let least = rows.chunks(ROW).map(met).min().expect("rows");
             let names: BTreeSet<i32> = match i % 2 {
                 0 => rows
                     .chunks(ROW)
                     .filter(|r| met(r) == least)
-                    .map(|r| r[0])
+                    .map(|r| r[row_at::NAME])
                     .collect(),
-                _ => rows.chunks(ROW).map(|r| r[0]).collect(),
+                _ => rows.chunks(ROW).map(|r| r[row_at::NAME]).collect(),
             };
-            let (limit, _) = self.pick(rows, |r| names.contains(&r[0])).expect("rows");
+            let (limit, _) = self
+                .pick(rows, |r| names.contains(&r[row_at::NAME]))
+                .expect("rows");
             self.with_rows(capture, limit);
         }
     }
@@ -323,10 +331,18 @@ impl<'s> Generator<'s> {
     fn free_values(&mut self, frame: &[u8], rows: &[i32]) {
         let mut edited = frame.to_vec();
         let mut expected = rows.to_vec();
-        for row in expected.chunks_mut(ROW).filter(|r| names::of(r[0]).free) {
-            let width = row[6] as usize;
-            row[7] = self.rng.below(1 << width) as i32;
-            bits::set(&mut edited, row[5] as usize, width, row[7] as u32);
+        for row in expected
+            .chunks_mut(ROW)
+            .filter(|r| names::of(r[row_at::NAME]).free)
+        {
+            let width = row[row_at::WIDTH] as usize;
+            row[row_at::VALUE] = self.rng.below(1 << width) as i32;
+            bits::set(
+                &mut edited,
+                row[row_at::POS] as usize,
+                width,
+                row[row_at::VALUE] as u32,
+            );
         }
         assert_eq!(self.at_zero(&edited, None), 0, "free values steer nothing");
         assert_eq!(
@@ -339,8 +355,11 @@ impl<'s> Generator<'s> {
     /// Demand 3's ground: other bits in the spans give the same rows.
     fn other_spans(&mut self, frame: &[u8], rows: &[i32]) {
         let mut edited = frame.to_vec();
-        for row in rows.chunks(ROW).filter(|r| names::of(r[0]).role.is_span()) {
-            for at in row[5]..row[5] + row[6] {
+        for row in rows
+            .chunks(ROW)
+            .filter(|r| names::of(r[row_at::NAME]).role.is_span())
+        {
+            for at in row[row_at::POS]..row[row_at::POS] + row[row_at::WIDTH] {
                 bits::set(&mut edited, at as usize, 1, self.rng.below(2) as u32);
             }
         }
@@ -352,11 +371,13 @@ impl<'s> Generator<'s> {
     /// times at a name that was met least so far.
     fn overrun(&mut self, capture: &[u8], rows: &[i32]) {
         let by_rarity = self.rng.chance(75);
-        let later = rows.chunks(ROW).filter(|r| r[3] > 0 && r[6] > 0);
+        let later = rows
+            .chunks(ROW)
+            .filter(|r| r[row_at::BLOCK] > 0 && r[row_at::WIDTH] > 0);
         let mut later: Vec<(usize, u64, &[i32])> = later
             .map(|r| {
                 let met = if by_rarity {
-                    self.counts.of((SIX, r[0], 0))
+                    self.counts.of((SIX, r[row_at::NAME], 0))
                 } else {
                     0
                 };
@@ -365,7 +386,7 @@ impl<'s> Generator<'s> {
             .collect();
         later.sort();
         for (_, _, row) in later {
-            let (pos, width) = (row[5] as usize, row[6] as usize);
+            let (pos, width) = (row[row_at::POS] as usize, row[row_at::WIDTH] as usize);
             if let Some(frame) = moved(capture, rows, pos, 0..width.min(64)) {
                 assert_eq!(self.at_zero(&frame, None), 6, "past the frame's end");
                 return;
@@ -377,7 +398,7 @@ impl<'s> Generator<'s> {
     fn tight(&mut self, capture: &[u8], rows: &[i32]) {
         let last = &rows[rows.len() - ROW..];
         let slack = self.rng.pick(&[0, 0, 1, 8, 10, 17]);
-        let audio_end = (last[5] + last[6]) as usize;
+        let audio_end = (last[row_at::POS] + last[row_at::WIDTH]) as usize;
         if let Some(frame) = moved(capture, rows, audio_end, slack..18) {
             self.whole(&frame);
         }

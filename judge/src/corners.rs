@@ -8,8 +8,9 @@ use crate::bits;
 use crate::craft::{sized, small, Asked};
 use crate::cut::{answer, MANY_ROWS};
 use crate::hex;
-use crate::listing::last_line;
-use crate::names::{number, ROW};
+use crate::layout::{row_at, ROW};
+use crate::listing::{self, last_line};
+use crate::names::number;
 
 pub struct Corner {
     pub name: &'static str,
@@ -155,8 +156,12 @@ fn mantissas_of_ones(mut frame: Vec<u8>) -> Vec<u8> {
     let mut room = vec![0; MANY_ROWS * ROW];
     let rows = answer(&frame, 0, &mut room).rows;
     let mantissas = number("mantissas");
-    for row in room.chunks(ROW).take(rows).filter(|r| r[0] == mantissas) {
-        for at in row[5]..row[5] + row[6] {
+    for row in room
+        .chunks(ROW)
+        .take(rows)
+        .filter(|r| r[row_at::NAME] == mantissas)
+    {
+        for at in row[row_at::POS]..row[row_at::POS] + row[row_at::WIDTH] {
             bits::set(&mut frame, at as usize, 1, 1);
         }
     }
@@ -1136,18 +1141,18 @@ fn tail_and_room() -> Vec<Corner> {
         )
         .rows(rows),
         corner(
-            "more-than-2048-rows",
+            "more-rows-than-lent",
             0,
             dense.clone(),
             "more rows than the listing program lends",
         ),
         corner(
-            "more-than-2048-rows-listed",
+            "more-rows-than-lent-listed",
             7,
             dense,
             "the same as the listing program sees it",
         )
-        .rows(2048),
+        .rows(listing::ROWS),
         corner(
             "most-rows",
             0,

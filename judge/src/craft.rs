@@ -6,7 +6,7 @@
 
 use crate::bits;
 use crate::cut::{ac3, Cursor, Source, MANY_ROWS};
-use crate::names::ROW;
+use crate::layout::ROW;
 use crate::tables::ac3_frame_words;
 
 /// What the parser asks for: a name, its index, the block (-1: the header).

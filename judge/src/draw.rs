@@ -7,7 +7,7 @@
 use crate::bits;
 use crate::cut::{ac3, Cursor, No, Source, MANY_ROWS};
 use crate::frame::{fix_crcs, Codec};
-use crate::names::ROW;
+use crate::layout::{row_at, ROW};
 use crate::rng::Rng;
 use crate::tables::{ac3_frame_words, NFCHANS};
 
@@ -267,7 +267,7 @@ pub fn accepted(style: Style, rng: &mut Rng) -> Option<Vec<u8>> {
             }
             Err(_) => {
                 // A reuse without cover: draw this block again, in the end with everything sent.
-                let block = room[ROW * (rows - 1) + 3].max(0) as usize;
+                let block = room[ROW * (rows - 1) + row_at::BLOCK].max(0) as usize;
                 draw.kept = draw.block_at[block];
                 draw.send_all[block] = attempt % 4 == 3;
             }

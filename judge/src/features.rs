@@ -2,7 +2,9 @@
 
 use crate::cut::Summary;
 use crate::frame::ac3_five_eighths_bits;
-use crate::names::{self, ROW};
+use crate::layout::{row_at, ROW};
+use crate::listing;
+use crate::names;
 use crate::tables::masktab;
 use std::collections::BTreeMap;
 
@@ -30,7 +32,7 @@ pub const FEATURES: [&str; 26] = [
     "coupling start exponent 26",
     "all SNR offsets in use 0, that of coupling not in use not 0",
     "csnroffst 0 and one channel's fine offset 0, another's not",
-    "more than 2,048 rows",
+    "more rows than the listing program lends",
     "audio up to the frame's last bit",
     "block 1 ending past five eighths of the frame",
 ];
@@ -41,13 +43,24 @@ struct Rows<'a>(Vec<&'a [i32]>);
 impl<'a> Rows<'a> {
     fn named(&self, name: &str) -> impl Iterator<Item = &'a [i32]> + '_ {
         let number = names::number(name);
-        self.0.iter().copied().filter(move |r| r[0] == number)
+        self.0
+            .iter()
+            .copied()
+            .filter(move |r| r[row_at::NAME] == number)
     }
     fn in_block(&self, block: i32) -> Rows<'a> {
-        Rows(self.0.iter().copied().filter(|r| r[3] == block).collect())
+        Rows(
+            self.0
+                .iter()
+                .copied()
+                .filter(|r| r[row_at::BLOCK] == block)
+                .collect(),
+        )
     }
     fn value(&self, name: &str, index: i32) -> Option<i32> {
-        self.named(name).find(|r| r[4] == index).map(|r| r[7])
+        self.named(name)
+            .find(|r| r[row_at::INDEX] == index)
+            .map(|r| r[row_at::VALUE])
     }
     fn has(&self, name: &str) -> bool {
         self.named(name).next().is_some()
@@ -144,7 +157,10 @@ pub fn of(rows: &[i32], s: &Summary) -> Vec<i32> {
         }
         coarse = b.value("csnroffst", -1).unwrap_or(coarse);
         for name in ["cplfsnroffst", "fsnroffst", "lfefsnroffst"] {
-            fine.extend(b.named(name).map(|r| ((name, r[4]), r[7])));
+            fine.extend(
+                b.named(name)
+                    .map(|r| ((name, r[row_at::INDEX]), r[row_at::VALUE])),
+            );
         }
         let of_coupling = fine.get(&("cplfsnroffst", -1)).copied().unwrap_or(0);
         let sum: i32 = fine.values().sum();
@@ -209,13 +225,13 @@ pub fn of(rows: &[i32], s: &Summary) -> Vec<i32> {
         ] {
             meet(
                 "a delta segment of length 0",
-                b.named(length).any(|r| r[7] == 0),
+                b.named(length).any(|r| r[row_at::VALUE] == 0),
             );
             for slot in slots {
                 let sum = |name| {
                     b.named(name)
-                        .filter(|r| r[4] == slot)
-                        .map(|r| r[7])
+                        .filter(|r| r[row_at::INDEX] == slot)
+                        .map(|r| r[row_at::VALUE])
                         .sum::<i32>()
                 };
                 meet(
@@ -230,18 +246,21 @@ pub fn of(rows: &[i32], s: &Summary) -> Vec<i32> {
             b.value("cpldeltoffst", 5).is_some_and(|o| o < first_band),
         );
     }
-    let zero_mantissas = all.named("mantissas").filter(|r| r[6] == 0).count();
+    let zero_mantissas = all
+        .named("mantissas")
+        .filter(|r| r[row_at::WIDTH] == 0)
+        .count();
     meet("zero-width mantissas in some block", zero_mantissas > 0);
     meet("zero-width mantissas in every block", zero_mantissas == 6);
     meet(
         "eight delta segments",
-        all.named("deltnseg").any(|r| r[7] == 7),
+        all.named("deltnseg").any(|r| r[row_at::VALUE] == 7),
     );
     meet(
         "eight coupling delta segments",
-        all.named("cpldeltnseg").any(|r| r[7] == 7),
+        all.named("cpldeltnseg").any(|r| r[row_at::VALUE] == 7),
     );
-    meet("skipl 0", all.named("skipl").any(|r| r[7] == 0));
+    meet("skipl 0", all.named("skipl").any(|r| r[row_at::VALUE] == 0));
     meet("addbsil 63", all.value("addbsil", -1) == Some(63));
     meet("phase flags", all.has("phsflg"));
     meet(
@@ -249,7 +268,10 @@ pub fn of(rows: &[i32], s: &Summary) -> Vec<i32> {
         (1..6).contains(&s.cpl_blocks),
     );
     meet("coordinates not sent", !s.coordinates_sent);
-    meet("more than 2,048 rows", s.rows > 2048);
+    meet(
+        "more rows than the listing program lends",
+        s.rows > listing::ROWS,
+    );
     meet(
         "audio up to the frame's last bit",
         s.audio_end == 8 * s.bytes,

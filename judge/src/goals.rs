@@ -1,8 +1,10 @@
 //! What the inputs are to reach. A goal is a kind and one or two numbers.
 
 use crate::cases::Case;
+use crate::cut::REFUSALS;
 use crate::features::{self, FEATURES};
-use crate::names::{self, number, ROW};
+use crate::layout::{row_at, ROW};
+use crate::names::{self, number};
 use crate::tables::ac3_frame_words;
 use std::collections::BTreeMap;
 
@@ -78,13 +80,15 @@ pub fn reached(case: &Case<'_>) -> Vec<Goal> {
             let (size, begin, end) = (number("frmsizecod"), number("cplbegf"), number("cplendf"));
             let strategy = number("chexpstr");
             for row in rows {
-                seen[row[0] as usize] = true;
-                match row[0] {
-                    n if n == size => frmsizecod = row[7],
-                    n if n == begin => cplbegf = row[7],
-                    n if n == end => goals.push((RANGE, cplbegf, row[7])),
-                    n if n == strategy => goals.push((STRATEGY, row[3], row[7])),
-                    n if values.contains(&n) => goals.push((VALUE, n, row[7])),
+                seen[row[row_at::NAME] as usize] = true;
+                match row[row_at::NAME] {
+                    n if n == size => frmsizecod = row[row_at::VALUE],
+                    n if n == begin => cplbegf = row[row_at::VALUE],
+                    n if n == end => goals.push((RANGE, cplbegf, row[row_at::VALUE])),
+                    n if n == strategy => {
+                        goals.push((STRATEGY, row[row_at::BLOCK], row[row_at::VALUE]))
+                    }
+                    n if values.contains(&n) => goals.push((VALUE, n, row[row_at::VALUE])),
                     _ => {}
                 }
             }
@@ -103,7 +107,9 @@ pub fn reached(case: &Case<'_>) -> Vec<Goal> {
             }
         }
         Err(no) => {
-            let last = rows.last().map_or([0, -1], |row| [row[0], row[3]]);
+            let last = rows
+                .last()
+                .map_or([0, -1], |row| [row[row_at::NAME], row[row_at::BLOCK]]);
             goals.push((REFUSAL, refusal, 0));
             goals.push((SITE, refusal, last[0]));
             goals.push((IN_BLOCK, refusal, last[1]));
@@ -148,13 +154,13 @@ pub fn reached(case: &Case<'_>) -> Vec<Goal> {
 
 /// What was judged, for refusals that several values lead to; `rest` is the input's length.
 fn judged(refusal: i32, rows: &[i32], rest: usize) -> Option<i32> {
-    let value = |from_end: usize| rows[rows.len() - ROW * from_end + 7];
+    let value = |from_end: usize| rows[rows.len() - ROW * from_end + row_at::VALUE];
     let of_last = |name: &str| {
         let number = number(name);
         rows.chunks(ROW)
             .rev()
-            .take_while(move |r| r[3] == rows[rows.len() - ROW + 3])
-            .filter(move |r| r[0] == number)
+            .take_while(move |r| r[row_at::BLOCK] == rows[rows.len() - ROW + row_at::BLOCK])
+            .filter(move |r| r[row_at::NAME] == number)
     };
     match refusal {
         // Which byte of the sync word is wrong.
@@ -170,7 +176,7 @@ fn judged(refusal: i32, rows: &[i32], rest: usize) -> Option<i32> {
         5 | 11 | 16 => Some(value(1)),
         // By how much, and how many channels are coupled.
         9 => Some(value(2) - value(1)),
-        10 => Some(of_last("chincpl").map(|r| r[7]).sum()),
+        10 => Some(of_last("chincpl").map(|r| r[row_at::VALUE]).sum()),
         _ => None,
     }
 }
@@ -209,7 +215,7 @@ pub fn required() -> Vec<Goal> {
     let mut goals: Vec<Goal> = Vec::new();
     let count = names::COUNT as i32;
     goals.extend((1..=count).map(|n| (NAME, n, 0)));
-    goals.extend((1..=20).map(|n| (REFUSAL, n, 0)));
+    goals.extend((1..=REFUSALS).map(|n| (REFUSAL, n, 0)));
     for (refusal, after) in SITES {
         goals.extend(after.iter().map(|name| (SITE, refusal, number(name))));
     }
@@ -228,7 +234,8 @@ pub fn required() -> Vec<Goal> {
     goals.extend((1..24).map(|s| (STRATEGY, s / 4, s % 4)));
     goals.extend((0..FEATURES.len() as i32).map(|f| (FEATURE, f, 0)));
     goals.extend((0..PLACES.len() as i32).map(|p| (PLACE, p, 0)));
-    goals.extend((0..16).map(|n| (LEFT_OVER, n / 8, n % 8)));
+    let row = ROW as i32;
+    goals.extend((0..2 * row).map(|n| (LEFT_OVER, n / row, n % row)));
     goals
 }
 

@@ -49,6 +49,7 @@ pub mod features;
 pub mod frames;
 pub mod goals;
 pub mod hex;
+pub mod layout;
 pub mod list;
 pub mod listing;
 pub mod moving;

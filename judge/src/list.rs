@@ -1,7 +1,7 @@
 //! The text list of cases: its form, and one case at a time in both directions.
 
 use crate::cases::{Case, Edit};
-use crate::cut::SUMMARY;
+use crate::layout::{answer_at, ANSWER};
 use std::fmt::Write;
 
 /// The head of the file.
@@ -16,7 +16,7 @@ pub const HEAD: &str = "\
 # NUMBER    0: accepted, else the refusal; ROWS and BIT as docs/FORMAT.md says, BIT being audio_end if accepted
 # CHECKSUM  over every number of the room after the call: h = 2166136261, then for each number, as its four
 #           bytes lowest first, h = (h XOR byte) * 16777619 mod 2^32; in decimal
-# SUMMARY   on acceptance, the 21 numbers of the summary in the order of docs/FORMAT.md; yes is 1
+# SUMMARY   on acceptance, the numbers of the summary in the order of docs/FORMAT.md; yes is 1
 ";
 
 /// The checksum over a room's numbers.
@@ -30,7 +30,7 @@ pub fn checksum(numbers: &[i32]) -> u32 {
 /// What a list says of a call: the answer's numbers and the room's checksum.
 #[derive(Clone, Debug, PartialEq, Eq)]
 pub struct Said {
-    pub numbers: [i32; 3 + SUMMARY],
+    pub numbers: [i32; ANSWER],
     pub checksum: u32,
 }
 
@@ -70,15 +70,20 @@ impl Listed {
             Some(e) => write!(out, "{},{},{}", e.at, e.width, e.value).expect("text"),
         }
         let said = &self.said;
-        let [number, rows, bit] = [said.numbers[0], said.numbers[1], said.numbers[2]];
+        let (told, summary) = said.numbers.split_at(answer_at::SUMMARY);
+        let told = told.iter().map(i32::to_string).collect::<Vec<_>>();
         write!(
             out,
-            " {} {} {} : {number} {rows} {bit} {}",
-            self.keep, self.place, self.numbers, said.checksum
+            " {} {} {} : {} {}",
+            self.keep,
+            self.place,
+            self.numbers,
+            told.join(" "),
+            said.checksum
         )
         .expect("text");
-        if number == 0 {
-            for n in &said.numbers[3..] {
+        if said.numbers[answer_at::REFUSAL] == 0 {
+            for n in summary {
                 write!(out, " {n}").expect("text");
             }
         }
@@ -105,8 +110,10 @@ impl Listed {
             .split(' ')
             .map(|n| n.parse().expect("a number"))
             .collect();
-        let mut numbers = [0; 3 + SUMMARY];
-        for (to, from) in numbers.iter_mut().zip(said[..3].iter().chain(&said[4..])) {
+        let (told, rest) = said.split_at(answer_at::SUMMARY);
+        let (checksum, summary) = rest.split_first().expect("a checksum");
+        let mut numbers = [0; ANSWER];
+        for (to, from) in numbers.iter_mut().zip(told.iter().chain(summary)) {
             *to = *from as i32;
         }
         Listed {
@@ -116,7 +123,7 @@ impl Listed {
             numbers: room,
             said: Said {
                 numbers,
-                checksum: said[3] as u32,
+                checksum: *checksum as u32,
             },
         }
     }

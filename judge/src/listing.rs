@@ -1,7 +1,7 @@
 //! The form in which the listing program of docs/FORMAT.md prints an answer.
 
 use crate::cut::Answer;
-use crate::names::ROW;
+use crate::layout::ROW;
 use std::fmt::Write;
 
 /// The listing program's room, in rows, and the most that it reads, in bytes.

@@ -3,7 +3,8 @@
 //! follows by whole bytes, by turning one or two optional parts on or off.
 
 use crate::bits::{self, Writer};
-use crate::names::{number, ROW};
+use crate::layout::{row_at, ROW};
+use crate::names::number;
 use crate::tables::ac3_frame_words;
 use std::ops::Range;
 
@@ -37,10 +38,11 @@ fn parts(capture: &[u8], rows: &[i32]) -> Vec<Part> {
     .map(|(name, content)| (number(name), content));
     let mut parts = Vec::new();
     for row in rows.chunks(ROW) {
-        let Some((name, content)) = lengths.iter().find(|(name, _)| *name == row[0]) else {
+        let Some((name, content)) = lengths.iter().find(|(name, _)| *name == row[row_at::NAME])
+        else {
             continue;
         };
-        let (at, on) = (row[5] as usize, row[7] == 1);
+        let (at, on) = (row[row_at::POS] as usize, row[row_at::VALUE] == 1);
         let skipped = match on && *name == number("skiple") {
             true => 8 * bits::get(capture, at + 1, 9) as usize,
             false => 0,
@@ -57,8 +59,8 @@ pub fn moved(capture: &[u8], rows: &[i32], from: usize, places: Range<usize>) ->
     let parts = parts(capture, rows);
     let block_0 = rows
         .chunks(ROW)
-        .find(|r| r[0] == number("skiple"))
-        .expect("in every block")[5] as usize;
+        .find(|r| r[row_at::NAME] == number("skiple"))
+        .expect("in every block")[row_at::POS] as usize;
     let grower = parts.iter().position(|p| p.at == block_0).expect("a part");
     let before: Vec<usize> = (0..parts.len())
         .filter(|&i| parts[i].at < from && i != grower)

@@ -2,12 +2,10 @@
 //!
 //! docs/NAMES.md is printed from this table, and `agree` holds every row of every input against it.
 
+use crate::layout::row_at;
 use crate::syntax::Role;
 use std::collections::HashMap;
 use std::sync::OnceLock;
-
-/// Numbers to a row: name, role, programme, block, index, position, width, value.
-pub const ROW: usize = 8;
 
 /// How many names there are; a name's number is its place in `NAMES`, from 1.
 pub const COUNT: usize = 111;
@@ -266,19 +264,21 @@ impl Index {
 
 /// True if a row is of the kind that its name has in the table.
 pub fn fits(row: &[i32]) -> bool {
-    let name = of(row[0]);
+    let name = of(row[row_at::NAME]);
     let in_block = name.part == Part::Audblk;
     let width_and_value = match name.width {
-        Width::Bits(bits) => row[6] == bits as i32 && (0..1 << bits).contains(&row[7]),
-        Width::Span(_) => row[6] >= 0 && row[7] == 0,
-    };
-    (row[1], row[2]) == role_numbers(name.role)
-        && if in_block {
-            (0..6).contains(&row[3])
-        } else {
-            row[3] == -1
+        Width::Bits(bits) => {
+            row[row_at::WIDTH] == bits as i32 && (0..1 << bits).contains(&row[row_at::VALUE])
         }
-        && name.index.allows(row[4])
+        Width::Span(_) => row[row_at::WIDTH] >= 0 && row[row_at::VALUE] == 0,
+    };
+    (row[row_at::ROLE], row[row_at::PROGRAMME]) == role_numbers(name.role)
+        && if in_block {
+            (0..6).contains(&row[row_at::BLOCK])
+        } else {
+            row[row_at::BLOCK] == -1
+        }
+        && name.index.allows(row[row_at::INDEX])
         && width_and_value
 }
 

@@ -2,15 +2,18 @@
 
 use crate::agree::Room;
 use crate::cases::{Amounts, Case, Generator};
+use crate::cut::REFUSALS;
 use crate::goals::{self, Goal};
+use crate::layout::{ANSWER, ROW};
 use crate::list::{said, Said};
 use crate::rng::Rng;
 use std::collections::{BTreeMap, BTreeSet};
 
 pub const MAGIC: &[u8; 4] = b"AC3J";
 
-/// The longest room of a case, in numbers.
-pub const MOST_NUMBERS: usize = 32768;
+/// The longest room of a case: so many rows, and their numbers.
+pub const MOST_ROWS: usize = 4096;
+pub const MOST_NUMBERS: usize = MOST_ROWS * ROW;
 
 /// A case as the list holds it.
 pub struct Replayed<'a> {
@@ -51,7 +54,7 @@ pub fn read(list: &[u8]) -> Vec<Replayed<'_>> {
         assert!(numbers <= MOST_NUMBERS);
         let capture = take(length);
         let mut said = Said {
-            numbers: [0; 24],
+            numbers: [0; ANSWER],
             checksum: 0,
         };
         for n in &mut said.numbers {
@@ -78,7 +81,7 @@ struct Candidate {
 }
 
 /// The bytes of a case beside its capture: two lengths and a place, the answer, the checksum.
-const BESIDE: usize = 8 + 96 + 4;
+const BESIDE: usize = 2 + 2 + 4 + 4 * ANSWER + 4;
 
 /// A case of fewer bytes than this is short.
 const SHORT: usize = 500;
@@ -147,7 +150,11 @@ pub fn make(seed: u64, most: usize) -> Vec<u8> {
     let mut turn = 0;
     while size + SHORT < most && classes.values().any(|class| !class.is_empty()) {
         turn += 1;
-        let refusal = if turn % 2 == 0 { 0 } else { turn / 2 % 21 };
+        let refusal = if turn % 2 == 0 {
+            0
+        } else {
+            turn / 2 % (REFUSALS as u32 + 1)
+        };
         let Some((_, at)) = classes.get_mut(&refusal).and_then(|class| class.pop()) else {
             continue;
         };

@@ -5,7 +5,7 @@ use judge::burst_cases::{fresh, Asked, Bursts, Case};
 use judge::cases::Amounts;
 use judge::craft::{sized, small, Asked as Value};
 use judge::cut::{answer, MANY_ROWS};
-use judge::names::ROW;
+use judge::layout::{BurstAnswer, ROW};
 
 /// The smallest frame, and how many rows it has.
 fn smallest(bsmod: u32) -> (Vec<u8>, i32) {
@@ -23,7 +23,7 @@ fn written(frame: &[u8]) -> Vec<u8> {
 
 /// What reading into `bytes` bytes tells; the room must be as the parse of the ninth byte on leaves it, or untouched at 30 and 31; the
 /// output untouched, or the frame in front.
-fn told(burst: &[u8], bytes: usize) -> [i32; 3] {
+fn told(burst: &[u8], bytes: usize) -> BurstAnswer {
     let (mut room, mut out) = fresh(ROW * 200, bytes);
     let (mut parsed, mut expected) = (room.clone(), out.clone());
     let told = read(burst, &mut room, &mut out);
@@ -236,7 +236,7 @@ const SLIPS: [&str; 22] = [
 ];
 
 /// The judge's answer again, with a slip.
-fn slipped(slip: &str, asked: Asked<'_>, room: &mut [i32], out: &mut [u8]) -> [i32; 3] {
+fn slipped(slip: &str, asked: Asked<'_>, room: &mut [i32], out: &mut [u8]) -> BurstAnswer {
     match asked {
         Asked::Write { capture, place } => slipped_write(slip, capture, place, room, out),
         Asked::Read { burst } => slipped_read(slip, burst, room, out),
@@ -249,7 +249,7 @@ fn slipped_write(
     place: usize,
     room: &mut [i32],
     out: &mut [u8],
-) -> [i32; 3] {
+) -> BurstAnswer {
     let least = BURST + usize::from(slip == "28 at 6,144 bytes too");
     if slip == "28 before the frame's own when writing" && out.len() < least {
         return [28, 0, 0];
@@ -297,7 +297,7 @@ fn slipped_write(
     [0, rows, 6144]
 }
 
-fn slipped_read(slip: &str, burst: &[u8], room: &mut [i32], out: &mut [u8]) -> [i32; 3] {
+fn slipped_read(slip: &str, burst: &[u8], room: &mut [i32], out: &mut [u8]) -> BurstAnswer {
     let bits = if slip == "31 for bits 8 to 10 too" {
         0xFF
     } else {

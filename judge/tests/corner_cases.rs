@@ -4,7 +4,7 @@
 use judge::agree::{Judge, Room};
 use judge::blocks::{allocate_block, AllocState, ExpSet, SlotAlloc};
 use judge::corners::{all, text};
-use judge::names::ROW;
+use judge::layout::{row_at, ROW};
 use std::collections::BTreeSet;
 use std::fs;
 use std::path::Path;
@@ -147,9 +147,9 @@ fn codes_too_large_are_of_all_three_sorts() {
     let of_block = |block: i32| {
         let row = rows
             .chunks(ROW)
-            .find(|r| (r[0], r[3]) == (mantissas, block));
+            .find(|r| (r[row_at::NAME], r[row_at::BLOCK]) == (mantissas, block));
         let row = row.expect("a row in every block");
-        let (at, width) = (row[5] as usize, row[6] as usize);
+        let (at, width) = (row[row_at::POS] as usize, row[row_at::WIDTH] as usize);
         assert!((at..at + width).all(|bit| judge::bits::get(&capture, bit, 1) == 1));
         width
     };

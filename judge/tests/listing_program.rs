@@ -1,6 +1,7 @@
 //! The listing program over the judge: the example of docs/FORMAT.md, its bytes, its rows.
 
 use judge::craft::{sized, small};
+use judge::listing::ROWS;
 use std::io::Write;
 use std::process::{Command, Stdio};
 
@@ -57,7 +58,7 @@ fn later_bytes_are_not_read() {
 }
 
 #[test]
-fn it_lends_2048_rows() {
+fn it_lends_so_many_rows() {
     let dense = sized(2, 37, &|a| match a.name {
         "acmod" => Some(7),
         "chexpstr" => Some(1),
@@ -66,8 +67,8 @@ fn it_lends_2048_rows() {
     });
     let text = listing(&[], &dense);
     let lines: Vec<&str> = text.lines().collect();
-    assert_eq!(lines.len(), 2049);
-    assert!(lines[2048].starts_with("refused 7 2048 "));
+    assert_eq!(lines.len(), ROWS + 1);
+    assert!(lines[ROWS].starts_with(&format!("refused 7 {ROWS} ")));
     // With more rows the frame is accepted.
     let text = listing(&["--all"], &dense);
     assert!(text.lines().last().unwrap().starts_with("audio 2778 3840 "));

@@ -19,9 +19,9 @@ mod syntax;
 
 use judge::agree::Room;
 use judge::cases::{Amounts, Case, Generator};
-use judge::names::{number, role_numbers, ROW};
+use judge::layout::{row, ROW};
 use judge::{alloc, bits, error, tables};
-use syntax::{Field, Seen, SEEN};
+use syntax::{Seen, SEEN};
 
 /// The published parse of the input with room for so many rows, as it was seen.
 fn observed(data: &[u8], rows: usize) -> (Seen, Option<String>) {
@@ -38,22 +38,6 @@ fn observed(data: &[u8], rows: usize) -> (Seen, Option<String>) {
         Err(other) => panic!("{other:?}"),
     };
     (seen, refused)
-}
-
-fn row(f: &Field) -> [i32; ROW] {
-    let (role, programme) = role_numbers(f.role);
-    let (block, index) = (f.block.into(), f.index.into());
-    let (pos, width, value) = (f.pos as i32, f.width as i32, f.value as i32);
-    [
-        number(f.name),
-        role,
-        programme,
-        block,
-        index,
-        pos,
-        width,
-        value,
-    ]
 }
 
 #[test]

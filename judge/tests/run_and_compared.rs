@@ -3,7 +3,8 @@
 
 use judge::agree::{Judge, Room};
 use judge::craft::small;
-use judge::names::{number, ROW};
+use judge::layout::{answer_at, row_at, ROW};
+use judge::names::number;
 
 const AMPLE: Room = Room::Sufficient { left_over: 0 };
 
@@ -17,15 +18,19 @@ fn chbwcod_60_and_61() {
     let groups = call
         .room
         .chunks(ROW)
-        .filter(|r| r[0] == number("exps[ch]"))
+        .filter(|r| r[row_at::NAME] == number("exps[ch]"))
         .count();
     assert_eq!(groups, 21);
 
     let call = judge.call(&frame(61), 0, AMPLE);
     assert_eq!(call.answer.number(), 11);
     let row = &call.room[ROW * (call.answer.rows - 1)..];
-    assert_eq!((row[0], row[7]), (number("chbwcod"), 61), "its row stands");
-    assert_eq!(call.answer.bit as i32, row[5] + 6, "and is read");
+    assert_eq!(
+        (row[row_at::NAME], row[row_at::VALUE]),
+        (number("chbwcod"), 61),
+        "its row stands"
+    );
+    assert_eq!(call.answer.bit as i32, row[row_at::POS] + 6, "and is read");
 }
 
 #[test]
@@ -35,15 +40,13 @@ fn rows_one_too_few() {
     let enough = judge.call(&frame, 0, AMPLE);
     let rows = enough.answer.rows;
     for limit in 0..rows {
-        for left_over in [0, 7] {
+        for left_over in [0, ROW - 1] {
             let call = judge.call(&frame, 0, Room::Numbers(ROW * limit + left_over));
             assert_eq!((call.answer.number(), call.answer.rows), (7, limit));
             assert_eq!(call.room[..ROW * limit], enough.room[..ROW * limit]);
-            assert_eq!(
-                call.answer.numbers()[3..],
-                [0; 21],
-                "the summary is all zeros"
-            );
+            let numbers = call.answer.numbers();
+            let summary = &numbers[answer_at::SUMMARY..];
+            assert!(summary.iter().all(|n| *n == 0), "the summary is all zeros");
         }
     }
     let call = judge.call(&frame, 0, Room::Numbers(ROW * rows));
@@ -78,8 +81,8 @@ fn zero_width_mantissas() {
     let widths: Vec<i32> = call
         .room
         .chunks(ROW)
-        .filter(|r| r[0] == number("mantissas"))
-        .map(|r| r[6])
+        .filter(|r| r[row_at::NAME] == number("mantissas"))
+        .map(|r| r[row_at::WIDTH])
         .collect();
     assert_eq!(widths, [0; 6], "each takes a row");
 }

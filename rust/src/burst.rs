@@ -18,7 +18,7 @@
 //! # Ok::<(), Refusal>(())
 //! ```
 
-use crate::layout::{BurstAnswer, BURST_BYTES, MOST_BYTES, REFUSAL};
+use crate::layout::{burst_answer_at, BurstAnswer, BURST_BYTES, MOST_BYTES};
 use crate::names::{known, meaning};
 use crate::parser::in_kept_room;
 use crate::raw;
@@ -154,7 +154,7 @@ pub fn read_into<'a>(
 }
 
 fn done((answer, written): (BurstAnswer, &[u8])) -> Result<&[u8], Refusal> {
-    match answer[REFUSAL] {
+    match answer[burst_answer_at::REFUSAL] {
         0 => Ok(written),
         number => Err(Refusal::of(number)),
     }

@@ -1,6 +1,10 @@
 //! Fields, by themselves and in a lent room.
+//!
+//! What turns a row into a field is always inlined, here and in names.rs: a dense frame has thousands, and their loop is most of what this
+//! crate costs.
 
-use crate::layout::{field, role, ROW_NUMBERS};
+use crate::layout::{row_at, Row, ROW_NUMBERS};
+use crate::names::{known, name_of, role_of};
 use crate::Role;
 use std::iter::FusedIterator;
 use std::slice::ChunksExact;
@@ -88,13 +92,29 @@ impl<'a> Fields<'a> {
 }
 
 #[inline(always)]
-fn whole(row: &[i32]) -> &[i32; ROW_NUMBERS] {
+fn whole(row: &[i32]) -> &Row {
     row.try_into().expect("chunks have that length")
 }
 
+/// A row's role.
+#[inline(always)]
+fn role(row: &Row) -> Role {
+    role_of(row[row_at::ROLE], row[row_at::PROGRAMME])
+}
+
+/// A row as a field.
 #[inline(always)]
 fn of(row: &[i32]) -> Field {
-    field(whole(row))
+    let row = whole(row);
+    Field {
+        name: name_of(row[row_at::NAME]),
+        role: role(row),
+        block: known(row[row_at::BLOCK]),
+        index: known(row[row_at::INDEX]),
+        pos: known(row[row_at::POSITION]),
+        width: known(row[row_at::WIDTH]),
+        value: known(row[row_at::VALUE]),
+    }
 }
 
 impl Iterator for Fields<'_> {

@@ -1,7 +1,9 @@
 //! What comes of parsing: a frame, in a list of its own or in lent room, or a refusal.
 
-use crate::names::meaning;
+use crate::layout::{answer_at, Answer};
+use crate::names::{known, meaning};
 use crate::{Field, Fields, Role};
+use std::array::from_fn;
 use std::fmt;
 
 /// What an accepted frame says of itself.
@@ -28,6 +30,22 @@ pub struct Summary {
     pub mantissa_starts: [usize; 6],
     /// Whether every coupled channel sent coordinates in the first block that uses coupling; yes where none does.
     pub coordinates_sent: bool,
+}
+
+/// The summary in an accepted frame's answer.
+pub(crate) fn summary(answer: &Answer) -> Summary {
+    Summary {
+        bytes: known(answer[answer_at::BYTES]),
+        audio_end: known(answer[answer_at::AUDIO_END]),
+        bsid: known(answer[answer_at::BSID]),
+        acmod: known(answer[answer_at::ACMOD]),
+        lfeon: answer[answer_at::LFEON] == 1,
+        fscod: known(answer[answer_at::FSCOD]),
+        cpl_blocks: known(answer[answer_at::CPL_BLOCKS]),
+        block_starts: from_fn(|block| known(answer[answer_at::BLOCK_STARTS + block])),
+        mantissa_starts: from_fn(|block| known(answer[answer_at::MANTISSA_STARTS + block])),
+        coordinates_sent: answer[answer_at::COORDINATES_SENT] == 1,
+    }
 }
 
 /// An accepted frame.

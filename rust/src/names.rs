@@ -182,7 +182,9 @@ mod tests {
         let (_, table) = header.split_once("#define FERRYSPRIG_ROLES {").unwrap();
         let (table, _) = table.split_once('}').unwrap();
         let said: Vec<&str> = table.split('"').skip(1).step_by(2).collect();
-        let ours: Vec<String> = (0..21).map(|n| format!("{:?}", role_of(n, 1))).collect();
+        let ours: Vec<String> = (0..said.len() as i32)
+            .map(|n| format!("{:?}", role_of(n, 1)))
+            .collect();
         let spelt: Vec<&str> = ours.iter().map(|r| r.trim_end_matches("(1)")).collect();
         assert_eq!(said, spelt);
     }

@@ -1,6 +1,7 @@
 //! Parsing, into room that is kept or lent.
 
-use crate::layout::{summary, BIT, MOST_ROWS, REFUSAL, ROW_NUMBERS};
+use crate::frame::summary;
+use crate::layout::{answer_at, MOST_ROWS, ROW_NUMBERS};
 use crate::names::known;
 use crate::{raw, Fields, Frame, FrameRef, Refusal};
 use std::cell::RefCell;
@@ -38,16 +39,16 @@ pub fn parse_into<'a>(
 ) -> Result<FrameRef<'a>, Refusal> {
     let (answer, written) = raw::parse(capture, place, room);
     let fields = Fields::new(written);
-    if answer[REFUSAL] == 0 {
+    if answer[answer_at::REFUSAL] == 0 {
         Ok(FrameRef {
             fields,
             summary: summary(&answer),
         })
     } else {
         Err(Refusal {
-            number: known(answer[REFUSAL]),
+            number: known(answer[answer_at::REFUSAL]),
             rows: fields.collect(),
-            bit: known(answer[BIT]),
+            bit: known(answer[answer_at::BIT]),
         })
     }
 }

@@ -1,7 +1,8 @@
-//! The archive's functions (c/ferrysprig.h) as safe ones. All unsafe code of the crate stands here.
+//! The archive's functions (c/ferrysprig.h) as safe ones. All unsafe code of the crate stands here; compare/ takes this file, too.
 
 use crate::layout::{
-    Answer, BurstAnswer, ANSWER_NUMBERS, BURST_ANSWER_NUMBERS, BURST_WRITTEN, ROWS, ROW_NUMBERS,
+    answer_at, burst_answer_at, Answer, BurstAnswer, ANSWER_NUMBERS, BURST_ANSWER_NUMBERS,
+    ROW_NUMBERS,
 };
 
 extern "C" {
@@ -59,7 +60,7 @@ pub fn parse<'a>(capture: &[u8], place: usize, rows: &'a mut [i32]) -> (Answer, 
         );
     }
     // A count is a length only if it fits the room. It always does, which is proved; that the archive is the proved one is not.
-    let written = usize::try_from(answer[ROWS])
+    let written = usize::try_from(answer[answer_at::ROWS])
         .ok()
         .and_then(|count| rows.get(..count.checked_mul(ROW_NUMBERS)?));
     (
@@ -123,7 +124,7 @@ pub fn burst_read<'a>(
 
 /// What an answer about a burst says was written. (That the count fits is proved, as in `parse`.)
 fn written<'a>(answer: &BurstAnswer, out: &'a [u8]) -> &'a [u8] {
-    usize::try_from(answer[BURST_WRITTEN])
+    usize::try_from(answer[burst_answer_at::WRITTEN])
         .ok()
         .and_then(|count| out.get(..count))
         .expect("libferrysprig.a wrote more bytes than there is room for")

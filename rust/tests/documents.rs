@@ -1,10 +1,14 @@
 //! The crate says what the documents and the C header say: names, roles, refusals.
 
 mod files;
+#[allow(dead_code)] // not all of it is said elsewhere
+#[path = "../src/layout.rs"]
+mod layout;
 
 use ferrysprig::burst::{self, Refusal};
 use ferrysprig::{parse, MOST_BYTES, MOST_ROWS, NAMES, REFUSALS, ROW_NUMBERS};
 use files::text;
+use layout::{answer_at, burst_answer_at, row_at, ANSWER_NUMBERS, BURST_ANSWER_NUMBERS};
 
 #[test]
 fn names_are_those_of_the_list() {
@@ -64,6 +68,9 @@ fn texts_are_those_of_the_header() {
 #[test]
 fn numbers_are_those_of_the_header() {
     assert_eq!(ROW_NUMBERS, number("FERRYSPRIG_ROW_NUMBERS"));
+    assert_eq!(ANSWER_NUMBERS, number("FERRYSPRIG_ANSWER_NUMBERS"));
+    let of_burst = number("FERRYSPRIG_BURST_ANSWER_NUMBERS");
+    assert_eq!(BURST_ANSWER_NUMBERS, of_burst);
     assert_eq!(MOST_ROWS, number("FERRYSPRIG_MOST_ROWS"));
     assert_eq!(MOST_BYTES, number("FERRYSPRIG_MOST_BYTES"));
     assert_eq!(burst::BYTES, number("FERRYSPRIG_BURST_BYTES"));
@@ -75,6 +82,59 @@ fn numbers_are_those_of_the_header() {
         .split('.')
         .fold(0, |sum, part| 100 * sum + part.parse::<usize>().unwrap());
     assert_eq!(of_version, number("FERRYSPRIG_VERSION_NUMBER"));
+}
+
+/// The places of a row or an answer that the header names, without the prefix, each with its number.
+fn places(prefix: &str) -> Vec<(String, usize)> {
+    let header = text("c/ferrysprig.h");
+    let named = header.lines().filter_map(|line| {
+        let (name, rest) = line.trim().strip_prefix(prefix)?.split_once(" = ")?;
+        let number = rest.split(|c: char| !c.is_ascii_digit()).next()?;
+        Some((name.to_string(), number.parse().unwrap()))
+    });
+    named.collect()
+}
+
+#[test]
+fn places_are_those_of_the_header() {
+    let row = [
+        ("NAME", row_at::NAME),
+        ("ROLE", row_at::ROLE),
+        ("PROGRAMME", row_at::PROGRAMME),
+        ("BLOCK", row_at::BLOCK),
+        ("INDEX", row_at::INDEX),
+        ("POSITION", row_at::POSITION),
+        ("WIDTH", row_at::WIDTH),
+        ("VALUE", row_at::VALUE),
+    ];
+    let answer = [
+        ("REFUSAL", answer_at::REFUSAL),
+        ("ROWS", answer_at::ROWS),
+        ("BIT", answer_at::BIT),
+        ("SUMMARY", judge::layout::answer_at::SUMMARY),
+        ("BYTES", answer_at::BYTES),
+        ("AUDIO_END", answer_at::AUDIO_END),
+        ("BSID", answer_at::BSID),
+        ("ACMOD", answer_at::ACMOD),
+        ("LFEON", answer_at::LFEON),
+        ("FSCOD", answer_at::FSCOD),
+        ("CPL_BLOCKS", answer_at::CPL_BLOCKS),
+        ("BLOCK_STARTS", answer_at::BLOCK_STARTS),
+        ("MANTISSA_STARTS", answer_at::MANTISSA_STARTS),
+        ("COORDINATES_SENT", answer_at::COORDINATES_SENT),
+    ];
+    let burst = [
+        ("REFUSAL", burst_answer_at::REFUSAL),
+        ("ROWS", answer_at::ROWS),
+        ("WRITTEN", burst_answer_at::WRITTEN),
+    ];
+    let own = |ours: &[(&str, usize)]| {
+        let pairs = ours.iter().map(|(name, at)| (name.to_string(), *at));
+        pairs.collect::<Vec<_>>()
+    };
+    assert_eq!(places("FERRYSPRIG_ROW_"), own(&row));
+    assert_eq!(places("FERRYSPRIG_ANSWER_"), own(&answer));
+    assert_eq!(places("FERRYSPRIG_BURST_ANSWER_"), own(&burst));
 }
 
 #[test]

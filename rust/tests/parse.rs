@@ -3,7 +3,7 @@
 mod files;
 
 use ferrysprig::{
-    parse, parse_at, parse_into, Field, Parser, Role, MOST_BYTES, MOST_ROWS, ROW_NUMBERS,
+    parse, parse_at, parse_into, Field, Parser, Role, MOST_BYTES, MOST_ROWS, REFUSALS, ROW_NUMBERS,
 };
 use std::cell::RefCell;
 use std::sync::mpsc::{channel, Sender};
@@ -304,7 +304,7 @@ fn parse_answers_while_its_thread_ends() {
 #[test]
 fn bytes_at_random() {
     let mut random = files::random();
-    let mut numbers = [0; 21];
+    let mut numbers = [0; REFUSALS.len() + 1];
     for (_, mut stream) in files::frames() {
         for _ in 0..30 {
             let at = random(stream.len().min(200));

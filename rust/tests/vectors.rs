@@ -3,49 +3,46 @@
 mod files;
 
 use ferrysprig::{parse_into, Frame, Refusal, REFUSALS};
-use std::fs;
+use judge::agree::fresh_room;
+use judge::cases::input;
+use judge::hex;
+use judge::layout::{answer_at, ANSWER};
+use judge::list::{checksum, Listed, Said};
 
-fn bytes(hex: &str) -> Vec<u8> {
-    (0..hex.len())
-        .step_by(2)
-        .map(|i| u8::from_str_radix(&hex[i..i + 2], 16).unwrap())
-        .collect()
-}
-
-fn overwrite(capture: &mut [u8], at: usize, width: usize, value: usize) {
-    for i in 0..width {
-        let (byte, bit) = ((at + i) / 8, 7 - (at + i) % 8);
-        let wanted = (value >> (width - 1 - i) & 1) as u8;
-        capture[byte] = capture[byte] & !(1 << bit) | wanted << bit;
-    }
-}
-
-fn checksum(room: &[i32]) -> u32 {
-    let bytes = room.iter().flat_map(|n| n.to_le_bytes());
-    bytes.fold(2166136261, |h, byte| {
-        (h ^ u32::from(byte)).wrapping_mul(16777619)
-    })
-}
-
-/// An answer's words: number, rows, bit, the room's checksum and, if accepted, the summary.
-fn words(answer: Result<Frame, Refusal>, room: &[i32]) -> Vec<usize> {
-    let sum = checksum(room) as usize;
+/// An answer as the list says it.
+fn said(answer: &Result<Frame, Refusal>, room: &[i32]) -> Said {
+    let mut numbers = [0; ANSWER];
+    let mut tell = |at: usize, number: usize| numbers[at] = number as i32;
     match answer {
-        Err(refusal) => vec![refusal.number.into(), refusal.rows.len(), refusal.bit, sum],
-        Ok(frame) => {
-            let (rows, s) = (frame.fields.len(), frame.summary);
-            let mut words = vec![0, rows, s.audio_end, sum, rows, s.bytes, s.audio_end];
-            words.extend([
-                s.bsid.into(),
-                s.acmod.into(),
-                s.lfeon.into(),
-                s.fscod.into(),
-                s.cpl_blocks,
-            ]);
-            words.extend(s.block_starts.into_iter().chain(s.mantissa_starts));
-            words.push(s.coordinates_sent.into());
-            words
+        Err(refusal) => {
+            tell(answer_at::REFUSAL, refusal.number.into());
+            tell(answer_at::ROWS, refusal.rows.len());
+            tell(answer_at::BIT, refusal.bit);
         }
+        Ok(frame) => {
+            let s = &frame.summary;
+            tell(answer_at::ROWS, frame.fields.len());
+            tell(answer_at::BIT, s.audio_end);
+            tell(answer_at::SUMMARY, frame.fields.len());
+            tell(answer_at::BYTES, s.bytes);
+            tell(answer_at::AUDIO_END, s.audio_end);
+            tell(answer_at::BSID, s.bsid.into());
+            tell(answer_at::ACMOD, s.acmod.into());
+            tell(answer_at::LFEON, s.lfeon.into());
+            tell(answer_at::FSCOD, s.fscod.into());
+            tell(answer_at::CPL_BLOCKS, s.cpl_blocks);
+            for (block, start) in s.block_starts.into_iter().enumerate() {
+                tell(answer_at::BLOCK_STARTS + block, start);
+            }
+            for (block, start) in s.mantissa_starts.into_iter().enumerate() {
+                tell(answer_at::MANTISSA_STARTS + block, start);
+            }
+            tell(answer_at::COORDINATES_SENT, s.coordinates_sent.into());
+        }
+    }
+    Said {
+        numbers,
+        checksum: checksum(room),
     }
 }
 
@@ -69,41 +66,24 @@ fn last_fields(refusal: &Refusal) {
 
 #[test]
 fn every_case_of_the_list() {
-    let list = fs::read_to_string(files::path("judge/vectors/list.txt")).unwrap();
+    let list = files::text("judge/vectors/list.txt");
     let mut frame = Vec::new();
     let mut cases = 0;
     let mut met = [false; REFUSALS.len() + 1];
     for line in list.lines().filter(|line| !line.starts_with('#')) {
-        if let Some(hex) = line.strip_prefix("frame ") {
-            frame = bytes(hex);
+        if let Some(digits) = line.strip_prefix("frame ") {
+            frame = hex::bytes(digits);
             continue;
         }
-        let (case, answer) = line
-            .strip_prefix("case ")
-            .unwrap()
-            .split_once(" : ")
-            .unwrap();
-        let case: Vec<&str> = case.split(' ').collect();
-        let [edit, keep, place, numbers] = case[..] else {
-            panic!("{line}")
-        };
-        let mut capture = frame.clone();
-        if edit != "-" {
-            let edit: Vec<usize> = edit.split(',').map(|n| n.parse().unwrap()).collect();
-            overwrite(&mut capture, edit[0], edit[1], edit[2]);
-        }
-        capture.truncate(keep.parse().unwrap());
-        let mut room: Vec<i32> = (0..numbers.parse().unwrap())
-            .map(|i| 1_000_000 + i)
-            .collect();
-        let given =
-            parse_into(&capture, place.parse().unwrap(), &mut room).map(|frame| frame.to_frame());
+        let case = Listed::read(line);
+        let capture = input(&frame, case.edit, case.keep);
+        let mut room = fresh_room(case.numbers);
+        let given = parse_into(&capture, case.place, &mut room).map(|frame| frame.to_frame());
         if let Err(refusal) = &given {
             last_fields(refusal);
             met[usize::from(refusal.number)] = true;
         }
-        let expected: Vec<usize> = answer.split(' ').map(|n| n.parse().unwrap()).collect();
-        assert_eq!(words(given, &room), expected, "{line}");
+        assert_eq!(said(&given, &room), case.said, "{line}");
         cases += 1;
     }
     assert!(cases > 10_000, "{cases} cases");

@@ -1,33 +1,21 @@
 -- No section of a block is handed the flag, so blocks from what is carried with another flag are the same grammar, but for the flag in the
 -- answer. Assumes nothing.
-use mathlib.Core.Bool.{Bool, false}
+use mathlib.Core.Bool.{false}
 use mathlib.Core.List.{List}
 use mathlib.Core.Path.{_≡_, refl, ap, sym, _∙_}
 use Prim.Native.Nat.{ℕ, zero, suc, _+_}
-use lib.IntN.{ℤ}
-use Rattle.syntax.specs.Grammar.{Grammar, done, refuse, field, free, span, walk, frame, here, _>>=_, turns}
+use Rattle.syntax.specs.Grammar.{Grammar, done, _>>=_, turns}
 use Rattle.syntax.specs.Place.{Place, Outcome, got, no, andThen, exec, fresh}
 use Rattle.syntax.proofs.Bind.{exec-bind}
 use Rattle.header.specs.Header.{header}
 use Rattle.header.specs.declared.Header.{Header}
 use Rattle.ac3.specs.AudioBlock.{Carry, audioBlock}
-use Rattle.ac3.specs.Coordinates.{flagged, flaggedCarry, flaggedAnswer, Rule, blockBy, audioBy, frameBy, answerBy, CoordinatesIdle}
+use Rattle.ac3.specs.Coordinates.{flagged, flaggedCarry, flaggedAnswer, Rule, blockBy, audioBy, frameBy, CoordinatesIdle}
 use Rattle.ac3.specs.Frame.{Audio, audio, syncframe, answered}
-use Rattle.ac3.specs.Promise.{Call, input, answerTo}
-use Rattle.ac3.specs.declared.Answer.{Answer}
+use Rattle.ac3.specs.Promise.{input}
+use Rattle.ac3.proofs.AtMost.{regroup}
 
 -- ---- grammars whose answers are looked at through a function
-
-inward : {A B C : Type 0} (g : Grammar A) (k : A → Grammar B) (m : B → Grammar C) → ((g >>= k) >>= m) ≡ (g >>= λ a. k a >>= m)
-unfolding _>>=_
-inward (done a) k m = refl
-inward (refuse n) k m = refl
-inward (field i w j) k m = λ t. field i w (λ v. inward (j v) k m t)
-inward (free i w j) k m = ap (free i w) (inward j k m)
-inward (span i w j) k m = ap (span i w) (inward j k m)
-inward (walk i ws j) k m = ap (walk i ws) (inward j k m)
-inward (frame x n j) k m = ap (frame x n) (inward j k m)
-inward (here j) k m = λ t. here (λ at. inward (j at) k m t)
 
 abbrev through : {A B : Type 0} → (A → B) → Grammar A → Grammar B
 through f g = g >>= λ a. done (f a)
@@ -35,7 +23,7 @@ through f g = g >>= λ a. done (f a)
 -- what comes next sees the answer through f
 past : {A B C : Type 0} (f : A → B) (g : Grammar A) (m : B → Grammar C) → (through f g >>= m) ≡ (g >>= λ a. m (f a))
 unfolding _>>=_
-past f g m = inward g (λ a. done (f a)) m
+past f g m = regroup (λ a. done (f a)) m g
 
 finished : {A B : Type 0} (f : A → B) {x y : A} → f x ≡ f y → through f (done x) ≡ through f (done y)
 unfolding _>>=_
@@ -44,14 +32,14 @@ finished f e = ap done e
 module _ {A B C : Type 0} (q : B → C) where
   -- the same, and then what is alike
   under : (g : Grammar A) (k j : A → Grammar B) → ((a : A) → through q (k a) ≡ through q (j a)) → through q (g >>= k) ≡ through q (g >>= j)
-  under g k j h = inward g k _ ∙ (λ t. g >>= λ a. h a t) ∙ sym (inward g j _)
+  under g k j h = regroup k _ g ∙ (λ t. g >>= λ a. h a t) ∙ sym (regroup j _ g)
 
   -- what is alike through f, and then what does not look past f
   alike : (f : A → A) (g g′ : Grammar A) (k : A → Grammar B) → through f g ≡ through f g′ → ((a : A) → through q (k a) ≡ through q (k (f a)))
       → through q (g >>= k) ≡ through q (g′ >>= k)
   alike f g g′ k e h =
       let seen : (x : Grammar A) → through q (x >>= k) ≡ (through f x >>= λ a. through q (k a)) =
-      λ x. inward x k _ ∙ (λ t. x >>= λ a. h a t) ∙ sym (past f x (λ a. through q (k a))) in
+      λ x. regroup k _ x ∙ (λ t. x >>= λ a. h a t) ∙ sym (past f x (λ a. through q (k a))) in
       seen g ∙ ap (λ x. x >>= λ a. through q (k a)) e ∙ sym (seen g′)
 
 -- ---- a block, and six
@@ -62,9 +50,8 @@ unflagged = flaggedCarry false
 one-block : (h : Header) (blk : ℕ) (c : Carry) → through unflagged (audioBlock h blk c) ≡ through unflagged (audioBlock h blk (unflagged c))
 unfolding audioBlock
 one-block h blk c =
-    under _ _ _ _ λ start. under _ _ _ _ λ _. under _ _ _ _ λ _. under _ _ _ _ λ _. under _ _ _ _ λ coupling. under _ _ _ _ λ sent. under _ _ _ _ λ _.
-    under _ _ _ _ λ strategies. under _ _ _ _ λ widths. under _ _ _ _ λ ends. under _ _ _ _ λ e. under _ _ _ _ λ alloc. under _ _ _ _ λ _. under _ _ _ _ λ mantissas.
-    finished _ refl
+    under _ _ _ _ λ start. under _ _ _ _ λ _. under _ _ _ _ λ coupled. under _ _ _ _ λ exponented. under _ _ _ _ λ alloc. under _ _ _ _ λ _.
+    under _ _ _ _ λ mantissas. finished _ refl
 
 module _ (h : Header) where
   blocks-unflagged : (n i : ℕ) (c : Carry) → through unflagged (turns i n c (audioBlock h)) ≡ through unflagged (turns i n (unflagged c) (audioBlock h))
@@ -75,7 +62,7 @@ module _ (h : Header) where
   module _ (rule : Rule) where
     block-by : (blk : ℕ) (c : Carry) → through unflagged (blockBy rule h blk c) ≡ through unflagged (audioBlock h blk c)
     unfolding blockBy _>>=_
-    block-by blk c = inward (audioBlock h blk c) _ _
+    block-by blk c = regroup _ _ (audioBlock h blk c)
 
     blocks-by : (n i : ℕ) (c : Carry) → through unflagged (turns i n c (blockBy rule h)) ≡ through unflagged (turns i n c (audioBlock h))
     unfolding turns
@@ -96,7 +83,7 @@ same-frame rule = under unmarked _ _ _ λ h. alike unmarked unflagged _ _ _ (blo
 seen : (o : Outcome Audio) → let t = answered (andThen o (λ a p. got (unmarked a) p)) in (flaggedAnswer false (answered o .0) ≡ flaggedAnswer false (t .0)) × (answered o .1 ≡ t .1)
 unfolding answered andThen
 seen (got a p) = (refl, refl)
-seen (no n p) = (refl, refl)
+seen (no x p) = (refl, refl)
 
 module _ (s : List ℕ) (p : Place) where
   outcome : (g : Grammar Audio) → exec (through unmarked g) s p ≡ andThen (exec g s p) (λ a q. got (unmarked a) q)

@@ -7,6 +7,7 @@ use Prim.Native.Nat.{ℕ, _/_}
 use lib.Dec.{T}
 use lib.ListN.{length, length-map}
 use Rattle.syntax.specs.Names.{editable, spans}
+use Rattle.syntax.specs.Numbers.{rowWidth}
 use Rattle.syntax.specs.Place.{finish}
 use Rattle.syntax.specs.Rows.{isQuiet, Outside, reread, rereadAll}
 use Rattle.syntax.specs.Run.{Kind, steering, unsteering, spanning, Row, parse}
@@ -35,7 +36,7 @@ outside (r ∷ rs) p fit out = (λ u. out .0 (quiet (r .kind) (r .item .name) (f
 module _ (c d : Call) (ok : Accepted c) (e : Edited c d) where
   again : parse syncframe (input d) (roomFor d) ≡ rereadAll (input d) (parse syncframe (input c) (roomFor c))
   again =
-      ap (λ room. parse syncframe (input d) (length room / 8)) (sym (e .room))
+      ap (λ room. parse syncframe (input d) (length room / rowWidth)) (sym (e .room))
       ∙ ac3-demand3 .only-steering (input c) (input d) (roomFor c) (reaches c ok) (e .long) (λ p lt out. e .bits p lt (outside (listed c) p (rows-marked (input c) (roomFor c)) out))
 
   same : answerTo d .0 ≡ answerTo c .0

@@ -12,31 +12,32 @@ use Rattle.bits.specs.Bits.{value}
 use Rattle.syntax.specs.declared.Item.{Item}
 use Rattle.syntax.specs.Grammar.{Grammar, done, refuse, field, free, span, walk, frame, here}
 use Rattle.syntax.specs.Place.{Place, flatten, finish}
-use Rattle.syntax.specs.Run.{Row, Spot, End, reached, refused, Result, past, number, Check, clear, stop, roomCheck, check, rowCheck, walkCheck, frameCheck, sum, unless, run, start, parse, _after_, beyond, within}
+use Rattle.syntax.specs.Refusals.{past, full}
+use Rattle.syntax.specs.Run.{Row, Spot, End, reached, refused, Result, Check, clear, stop, roomCheck, check, rowCheck, walkCheck, frameCheck, sum, unless, run, start, parse, _after_, beyond, within}
 use Rattle.syntax.proofs.Checks.{room-some, clear-room}
 use Rattle.ac3.specs.Frame.{Audio, syncframe, answered}
 use Rattle.ac3.specs.MoreRoom.{SameList, SameAnswer, MoreRoom}
-use Rattle.ac3.specs.Promise.{Call, input, roomFor, withRoom, listed, answerTo}
+use Rattle.ac3.specs.Promise.{Call, input, roomFor, withRoom, answerTo}
 use Rattle.ac3.specs.RowBound.{mostRows}
 use Rattle.ac3.proofs.Promise.{result, landed, answer-is}
 use Rattle.ac3.proofs.Rooms.{rows-are, same-answer}
 use Rattle.ac3.proofs.RowBound.{row-bound}
 
--- a check that stops with 7
-abbrev Seven : Check → Type 0
-Seven clear = ⊥
-Seven (stop why bit) = number why ≡ 7
+-- a check that stops for want of room
+abbrev Full : Check → Type 0
+Full clear = ⊥
+Full (stop x bit) = x ≡ full
 
 module _ (k : ℕ) where
   check-more : (i : Item) (limit left whenFull : ℕ) (ws : List ℕ) (at : ℕ)
-      → ¬ Seven (check i limit left whenFull ws at) → check i limit (left + k) whenFull ws at ≡ check i limit left whenFull ws at
+      → ¬ Full (check i limit left whenFull ws at) → check i limit (left + k) whenFull ws at ≡ check i limit left whenFull ws at
   unfolding check roomCheck
   check-more i limit zero whenFull [] at h = absurd (h refl)
   check-more i limit (suc left) whenFull [] at h = room-some (suc left + k) whenFull (omega arith)
   check-more i limit left whenFull (w ∷ ws) at h = go (ltb limit (at + w)) (check-more i limit left whenFull ws (at + w)) h
     where
-      go : (b : Bool) → (¬ Seven (check i limit left whenFull ws (at + w)) → check i limit (left + k) whenFull ws (at + w) ≡ check i limit left whenFull ws (at + w))
-          → ¬ Seven (cond b (stop (past i) at) (check i limit left whenFull ws (at + w)))
+      go : (b : Bool) → (¬ Full (check i limit left whenFull ws (at + w)) → check i limit (left + k) whenFull ws (at + w) ≡ check i limit left whenFull ws (at + w))
+          → ¬ Full (cond b (stop (past i) at) (check i limit left whenFull ws (at + w)))
           → cond b (stop (past i) at) (check i limit (left + k) whenFull ws (at + w)) ≡ cond b (stop (past i) at) (check i limit left whenFull ws (at + w))
       go true later h = refl
       go false later h = later h
@@ -55,26 +56,26 @@ module _ (k : ℕ) where
     abbrev more : Result A → Result A
     more r = record { rows = r .rows; spot = roomier (r .spot); end = r .end }
 
-    module _ (c d : Check) (p : Spot) (same : ¬ Seven c → d ≡ c) where
-      more-unless : (r r′ : Result A) → (c ≡ clear → ¬ (r .end ≡ refused 7) → r′ ≡ more r)
-          → ¬ ((unless c p (λ _. r)) .end ≡ refused 7) → unless d (roomier p) (λ _. r′) ≡ more (unless c p (λ _. r))
+    module _ (c d : Check) (p : Spot) (same : ¬ Full c → d ≡ c) where
+      more-unless : (r r′ : Result A) → (c ≡ clear → ¬ (r .end ≡ refused full) → r′ ≡ more r)
+          → ¬ ((unless c p (λ _. r)) .end ≡ refused full) → unless d (roomier p) (λ _. r′) ≡ more (unless c p (λ _. r))
       unfolding unless
       more-unless r r′ later h = go c same later h
         where
-          go : (c : Check) → (¬ Seven c → d ≡ c) → (c ≡ clear → ¬ (r .end ≡ refused 7) → r′ ≡ more r)
-              → ¬ ((unless c p (λ _. r)) .end ≡ refused 7) → unless d (roomier p) (λ _. r′) ≡ more (unless c p (λ _. r))
+          go : (c : Check) → (¬ Full c → d ≡ c) → (c ≡ clear → ¬ (r .end ≡ refused full) → r′ ≡ more r)
+              → ¬ ((unless c p (λ _. r)) .end ≡ refused full) → unless d (roomier p) (λ _. r′) ≡ more (unless c p (λ _. r))
           go clear same later h = rw (same (λ z. z)) (later refl h)
-          go (stop why bit) same later h = rw (same (λ seven. h (ap refused seven)))
+          go (stop x bit) same later h = rw (same (λ is. h (ap refused is)))
 
-      more-row : (x : Row) (r r′ : Result A) → (c ≡ clear → ¬ (r .end ≡ refused 7) → r′ ≡ more r)
-          → ¬ ((unless c p (λ _. r after x ∷ [])) .end ≡ refused 7) → unless d (roomier p) (λ _. r′ after x ∷ []) ≡ more (unless c p (λ _. r after x ∷ []))
+      more-row : (x : Row) (r r′ : Result A) → (c ≡ clear → ¬ (r .end ≡ refused full) → r′ ≡ more r)
+          → ¬ ((unless c p (λ _. r after x ∷ [])) .end ≡ refused full) → unless d (roomier p) (λ _. r′ after x ∷ []) ≡ more (unless c p (λ _. r after x ∷ []))
       more-row x r r′ later = more-unless (r after x ∷ []) (r′ after x ∷ []) (λ e h. ap (λ q. q after x ∷ []) (later e h))
 
     module _ (s : List ℕ) where
-      pub run-more : (g : Grammar A) (p : Spot) → ¬ ((run g s p) .end ≡ refused 7) → run g s (roomier p) ≡ more (run g s p)
+      pub run-more : (g : Grammar A) (p : Spot) → ¬ ((run g s p) .end ≡ refused full) → run g s (roomier p) ≡ more (run g s p)
       unfolding run
       run-more (done a) p h = refl
-      run-more (refuse n) p h = refl
+      run-more (refuse x) p h = refl
       run-more (field i w k) p h =
           let v = value s (p .at) w in
           more-row (rowCheck i p w) (rowCheck i (roomier p) w) p (check-more i _ _ _ _ _) _ _ _
@@ -93,7 +94,7 @@ module _ (k : ℕ) where
 
 -- ---- of AC-3
 
-same-list : (s : List ℕ) (m n : ℕ) → m ≤ n → ¬ (parse syncframe s m .end ≡ refused 7) → SameList (parse syncframe s n) (parse syncframe s m)
+same-list : (s : List ℕ) (m n : ℕ) → m ≤ n → ¬ (parse syncframe s m .end ≡ refused full) → SameList (parse syncframe s n) (parse syncframe s m)
 same-list s m n le h =
     let grown : m + (n - m) ≡ n = omega arith in
     let same : parse syncframe s n ≡ more (n - m) (parse syncframe s m) = ap (parse syncframe s) (sym grown) ∙ run-more (n - m) s syncframe (start (length s) m) h in
@@ -111,12 +112,12 @@ answers-of c d same =
       rows = rows-are d ∙ ap flatten (same .rows) ∙ sym (rows-are c);
     }
 
-seven-told : (e : End Audio) (q : Place) → e ≡ refused 7 → answered (finish e q) .0 .refusal ≡ 7
+seven-told : (e : End Audio) (q : Place) → e ≡ refused full → answered (finish e q) .0 .refusal ≡ 7
 unfolding answered finish
 seven-told (reached a) q is = let z : _≡_ {A = ℕ} 0 1 = cc in absurd (omega arith)
-seven-told (refused n) q is = cc
+seven-told (refused x) q is = let same : x ≡ full = cc in ap (λ y. y .number) same
 
-seven : (c : Call) → result c .end ≡ refused 7 → answerTo c .0 .refusal ≡ 7
+seven : (c : Call) → result c .end ≡ refused full → answerTo c .0 .refusal ≡ 7
 seven c is = ap (λ x. x .0 .refusal) (answer-is c) ∙ seven-told (result c .end) (landed (result c) (c .room)) is
 
 more-answers : (c : Call) (room : List ℤ) → roomFor c ≤ roomFor (withRoom room c) → ¬ (answerTo c .0 .refusal ≡ 7) → SameAnswer (withRoom room c) c
@@ -135,6 +136,6 @@ more-room =
       answers = more-answers;
       enough = λ c room one two.
           let d = withRoom room c in
-          let at-most = row-bound .never-full (input c) mostRows (omega arith) in
+          let at-most : ¬ (parse syncframe (input c) mostRows .end ≡ refused full) = λ is. row-bound .never-full (input c) mostRows (omega arith) full is refl in
           answers-of c d (joined (same-list (input c) mostRows (roomFor d) two at-most) (reversed (same-list (input c) mostRows (roomFor c) one at-most)));
     }

@@ -4,8 +4,8 @@ use native.Mathlib.Omega.{arith}
 use mathlib.Core.Bool.{Bool, true, false, _&&_, _||_, not}
 use mathlib.Core.List.{List}
 use mathlib.Core.Path.{_≡_, refl}
-use lib.ListN.{length, getD, drop}
-use Rattle.channels.proofs.Listed.{more, no-more}
+use lib.ListN.{length, getD, drop, drop-of-length-le}
+use Rattle.channels.proofs.Listed.{more}
 use Rattle.ac3.specs.AudioBlock.{allSent}
 
 -- at entry i, every coupled channel before it has sent
@@ -44,4 +44,4 @@ module _ {chincpl sent : List Bool} where
 
     pub sent-all : length chincpl ≤ i → true ≡ allSent chincpl sent
     unfolding allSent
-    sent-all h = rw (no-more chincpl i h) at (t .left)
+    sent-all h = rw (drop-of-length-le chincpl h) at (t .left)

@@ -1,8 +1,7 @@
 -- What a frame starts from is within the bounds that its blocks keep. Assumes nothing.
 use native.Mathlib.Omega.{arith}
-use Rattle.blocks.specs.Sound.{SoundExps}
-use Rattle.blocks.proofs.Entries.{exps-none, deltas-none}
-use Rattle.channels.proofs.Bounds.{zeros}
+use Rattle.slots.specs.Sound.{SoundExps}
+use Rattle.slots.proofs.Entries.{zeros-below, exps-none, deltas-none}
 use Rattle.ac3.specs.Frame.{unsent, unread}
 use Rattle.ac3.specs.Sound.{SoundState}
 
@@ -14,10 +13,10 @@ sound-state =
     record {
       coupling = record { cplbegf = omega arith; cplendf = omega arith };
       bands = record { ncplbnd = omega arith };
-      bandwidths = record { chbwcod = zeros 5 (omega arith) };
+      bandwidths = record { chbwcod = zeros-below 5 (omega arith) };
       alloc = record {
         curve = record { sdcycod = omega arith; fdcycod = omega arith; sgaincod = omega arith; dbpbcod = omega arith; floorcod = omega arith };
-        offsets = record { csnroffst = omega arith; fsnroffst = zeros 7 (omega arith); fgaincod = zeros 7 (omega arith) };
+        offsets = record { csnroffst = omega arith; fsnroffst = zeros-below 7 (omega arith); fgaincod = zeros-below 7 (omega arith) };
         leak = record { cplfleak = omega arith; cplsleak = omega arith };
         deltas = deltas-none;
       };

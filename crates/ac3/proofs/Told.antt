@@ -7,21 +7,21 @@ use borrow.Author.Tests.{eq-eqb, ne-eqb}
 use Rattle.syntax.specs.declared.Cursor.{Cursor}
 use Rattle.syntax.specs.Grammar.{_>>=_}
 use Rattle.syntax.specs.Place.{except, exec, fresh}
-use Rattle.syntax.specs.Reads.{from, Reads}
+use Rattle.syntax.specs.Reads.{Goes, from, Reads}
 use Rattle.syntax.proofs.Whole.{begun}
 use Rattle.header.specs.Header.{syncinfo, header}
 use Rattle.ac3.specs.Frame.{Audio, syncframe, summaryOf, noSummary, answered}
 
 module _ {s : List ℕ} {room after : List ℤ} {a : Audio} {d : Cursor} (r : Reads syncframe s begun room a d after) where
-  pub told-refused : (d .stop ≡ 0 → ⊥)
-      → (record { refusal = d .stop; rows = d .count; bit = d .at; summary = noSummary }, after) ≡ answered (exec syncframe s (fresh room))
+  pub told-refused : ¬ Goes d
+      → (record { refusal = d .stop .number; rows = d .count; bit = d .at; summary = noSummary }, after) ≡ answered (exec syncframe s (fresh room))
   unfolding from answered
-  told-refused h = ap answered (rw (ne-eqb (d .stop) 0 h) at (r .same))
+  told-refused h = ap answered (rw (ne-eqb (d .stop .number) 0 h) at (r .same))
 
-  pub told-accepted : d .stop ≡ 0
+  pub told-accepted : Goes d
       → (record { refusal = 0; rows = d .count; bit = d .at; summary = summaryOf (d .count) a }, after) ≡ answered (exec syncframe s (fresh room))
   unfolding from answered
-  told-accepted h = ap answered (rw (eq-eqb (d .stop) 0 h) at (r .same))
+  told-accepted h = ap answered (rw (eq-eqb (d .stop .number) 0 h) at (r .same))
 
 -- nothing is too short
 pub told-nothing : (room : List ℤ)

@@ -9,7 +9,7 @@ use Rattle.alloc.specs.Allocation.{logadd, snrOffset, bandOf, deltaOf}
 use Rattle.syntax.specs.Grammar.{_>>=_, turns}
 use Rattle.syntax.specs.Run.{sum, run, unless, roomCheck, check}
 use Rattle.channels.specs.Coupling.{howMany, coupledChannels, couplingBands, newCoupling}
-use Rattle.exponents.specs.Exponents.{group, step}
+use Rattle.exponents.specs.Exponents.{group, unpack, step}
 use Rattle.mantissas.specs.Mantissas.{widths}
 use Rattle.ac3.specs.Values.{ValuesOnEachSide}
 
@@ -22,5 +22,5 @@ unfolding logadd logAdd
 sum-of-equals a = rw (cond-same (ltZ a a) a, +ℤ-invr a) refl
 
 pub values-on-each-side : ValuesOnEachSide
-unfolding frameBytes words48 words44 words32 value bitAt newCoupling coupledChannels couplingBands howMany turns group step _>>=_ run unless roomCheck check bandOf bandEnd snrOffset deltaOf sum widths bapBits logadd logAdd
+unfolding frameBytes words48 words44 words32 value bitAt newCoupling coupledChannels couplingBands howMany turns group unpack step _>>=_ run unless roomCheck check bandOf bandEnd snrOffset deltaOf sum widths bapBits logadd logAdd
 values-on-each-side = (refl, refl, refl, refl, refl, refl, refl, refl, refl, refl, refl, refl, sum-of-equals)

@@ -26,7 +26,7 @@ noHeader = record { bytes = 0; fscod = 0; bsid = 0; acmod = 0; lfeon = false }
 
 unfoldable pub headed : Outcome Header → HeaderAnswer × List ℤ
 headed (got h p) = (record { refusal = 0; rows = p .count; bit = p .at; header = h }, p .room)
-headed (no n p) = (record { refusal = n; rows = p .count; bit = p .at; header = noHeader }, p .room)
+headed (no x p) = (record { refusal = x .number; rows = p .count; bit = p .at; header = noHeader }, p .room)
 
 -- the header at a call's place, and the room after it
 abbrev pub headerTo : Call → HeaderAnswer × List ℤ

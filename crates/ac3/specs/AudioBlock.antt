@@ -11,13 +11,16 @@ use Rattle.syntax.specs.Grammar.{Grammar, done, _>>=_, _>>_, nth, oneRoled, tak
 use Rattle.syntax.specs.Names as Name
 use Rattle.header.specs.Header.{programmes}
 use Rattle.header.specs.declared.Header.{Header}
-use Rattle.blocks.specs.declared.AllocState.{AllocState}
-use Rattle.blocks.specs.Delta.{deltas}
-use Rattle.blocks.specs.Parameters.{curve, offsets, couplingLeak}
+use Rattle.slots.specs.declared.AllocState.{AllocState}
+use Rattle.slots.specs.declared.Coupling.{Coupling}
+use Rattle.slots.specs.declared.Strategies.{Strategies}
+use Rattle.parameters.specs.Delta.{deltas}
+use Rattle.parameters.specs.Parameters.{curve, offsets, couplingLeak}
 use Rattle.exponents.specs.Exponents.{Exponents, exponents}
 use Rattle.mantissas.specs.Mantissas.{mantissas}
 use Rattle.channels.specs.Coupling.{couplingStrategy, couplingCoordinates, rematrixing}
 use Rattle.channels.specs.Strategies.{exponentStrategies, bandwidths, channelEnds}
+use Rattle.channels.specs.declared.Bandwidths.{Bandwidths}
 use Rattle.ac3.specs.declared.State.{State}
 use Rattle.ac3.specs.declared.Tally.{Tally}
 
@@ -36,6 +39,43 @@ unfoldable pub dynamicRange : (blk p : ℕ) → Grammar (Unit {0})
 dynamicRange blk p = do
   dynrnge ← flag (oneRoled blk (DynrngExists p) (Name.dynrnge + 2 * p))
   when dynrnge (note (oneRoled blk (Dynrng p) (Name.dynrng + 2 * p)) 8)
+
+-- block switches, dither and dynamic range
+unfoldable pub channelSettings : (blk acmod : ℕ) → Grammar (Unit {0})
+channelSettings blk acmod = do
+  channelFlags blk Name.blksw (nfchans acmod)
+  channelFlags blk Name.dithflag (nfchans acmod)
+  each (programmes acmod) (dynamicRange blk)
+
+-- the coupling in force, and which channels have new coordinates
+pub record Coupled : Type 0 where
+  pub coupling : Coupling
+  pub cplcoe : List Bool
+
+-- coupling strategy and coordinates, and rematrixing
+unfoldable pub couplingSection : (blk acmod : ℕ) → Coupling → Grammar Coupled
+couplingSection blk acmod old = do
+  c ← couplingStrategy blk acmod (nfchans acmod) old
+  cplcoe ← couplingCoordinates blk (nfchans acmod) c
+  rematrixing blk acmod c
+  done (record { coupling = c; cplcoe = cplcoe })
+
+-- the bandwidths in force and where each channel ends, and the exponents in force
+pub record Exponented : Type 0 where
+  pub strategies : Strategies
+  pub bandwidths : Bandwidths
+  pub ends : List ℕ
+  pub exponents : Exponents
+
+-- exponent strategies, bandwidths and exponents
+unfoldable pub exponentSection : (blk : ℕ) → Header → Coupling → Bandwidths → Exponents → Grammar Exponented
+exponentSection blk h c old e = do
+  let channels = nfchans (h .acmod)
+  strategies ← exponentStrategies blk channels (c .cplinu) (h .lfeon)
+  widths ← bandwidths blk channels c (strategies .chexpstr) old
+  ends ← channelEnds channels c widths
+  e ← exponents blk channels (h .lfeon) c strategies ends e
+  done (record { strategies = strategies; bandwidths = widths; ends = ends; exponents = e })
 
 unfoldable pub skipField : ℕ → Grammar (Unit {0})
 skipField blk = do
@@ -74,21 +114,15 @@ audioBlock h blk before = do
   let old = before .state
   let channels = nfchans (h .acmod)
   start ← position
-  channelFlags blk Name.blksw channels
-  channelFlags blk Name.dithflag channels
-  each (programmes (h .acmod)) (dynamicRange blk)
-  c ← couplingStrategy blk (h .acmod) channels (old .coupling)
-  cplcoe ← couplingCoordinates blk channels c
-  rematrixing blk (h .acmod) c
-  strategies ← exponentStrategies blk channels (c .cplinu) (h .lfeon)
-  widths ← bandwidths blk channels c (strategies .chexpstr) (old .bandwidths)
-  ends ← channelEnds channels c widths
-  e ← exponents blk channels (h .lfeon) c strategies ends (record { cover = old .cover; exps = before .exps })
+  channelSettings blk (h .acmod)
+  cpl ← couplingSection blk (h .acmod) (old .coupling)
+  let c = cpl .coupling
+  x ← exponentSection blk h c (old .bandwidths) (record { cover = old .cover; exps = before .exps })
   alloc ← allocState blk channels (c .cplinu) (h .lfeon) (old .alloc)
   skipField blk
-  mantissas ← mantissas blk (h .fscod) channels (h .lfeon) c ends alloc (e .exps)
+  mantissas ← mantissas blk (h .fscod) channels (h .lfeon) c (x .ends) alloc (x .exponents .exps)
   done (record {
-    state = record { coupling = c; bandwidths = widths; cover = e .cover; alloc = alloc };
-    exps = e .exps;
-    tally = counted blk start mantissas (c .cplinu) (allSent (c .chincpl) cplcoe) (before .tally);
+    state = record { coupling = c; bandwidths = x .bandwidths; cover = x .exponents .cover; alloc = alloc };
+    exps = x .exponents .exps;
+    tally = counted blk start mantissas (c .cplinu) (allSent (c .chincpl) (cpl .cplcoe)) (before .tally);
   })

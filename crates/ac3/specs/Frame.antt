@@ -8,7 +8,7 @@ use Rattle.syntax.specs.Grammar.{Grammar, done, _>>=_, position, for}
 use Rattle.syntax.specs.Place.{Place, Outcome, got, no, exec, fresh}
 use Rattle.header.specs.Header.{header}
 use Rattle.header.specs.declared.Header.{Header}
-use Rattle.blocks.specs.Delta.{noDeltas}
+use Rattle.slots.specs.Slots.{noDeltas}
 use Rattle.ac3.specs.AudioBlock.{Carry, audioBlock}
 use Rattle.ac3.specs.declared.Answer.{Answer}
 use Rattle.ac3.specs.declared.Summary.{Summary}
@@ -71,7 +71,7 @@ noSummary =
 
 unfoldable pub answered : Outcome Audio → Answer × List ℤ
 answered (got a p) = (record { refusal = 0; rows = p .count; bit = p .at; summary = summaryOf (p .count) a }, p .room)
-answered (no n p) = (record { refusal = n; rows = p .count; bit = p .at; summary = noSummary }, p .room)
+answered (no x p) = (record { refusal = x .number; rows = p .count; bit = p .at; summary = noSummary }, p .room)
 
 -- the frame at this byte of a capture: past the end there is nothing, which is too short
 abbrev pub answer : (capture : List ℕ) (place : ℕ) (room : List ℤ) → Answer × List ℤ

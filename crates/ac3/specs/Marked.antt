@@ -1,14 +1,15 @@
 -- No part of the definition: what can be said of a grammar by looking through it, and words for it that statements use. Exactly the
 -- editable names are read as values that steer nothing, exactly the spans as spans, by name and by role, and every refusal has one of the
 -- twenty numbers.
-use mathlib.Core.Bool.{Bool, true, false, not, _&&_, _||_}
+use mathlib.Core.Bool.{Bool, false, not, _&&_, _||_}
 use mathlib.Core.List.{List, [], _∷_}
 use Prim.Native.Nat.{ℕ}
 use lib.Dec.{T, eqb, leb}
 use Rattle.syntax.specs.declared.Item.{Item}
+use Rattle.syntax.specs.declared.Refusal.{Refusal}
 use Rattle.syntax.specs.declared.Role.{Role}
 use Rattle.syntax.specs.Grammar.{Grammar, done, refuse, field, free, span, walk, frame, here}
-use Rattle.syntax.specs.Run.{Kind, steering, unsteering, spanning, Row, number, Check, clear, stop, End, reached, refused}
+use Rattle.syntax.specs.Run.{Kind, steering, unsteering, spanning, Row, Check, clear, stop, End, reached, refused}
 use Rattle.syntax.specs.Names.{editable, spans}
 use Rattle.syntax.specs.Numbers.{roleNumbers}
 
@@ -45,19 +46,19 @@ numberFits n = leb 1 n && leb n 20
 -- a refusal, if it is one, is numbered
 abbrev pub StopFits : Check → Type 0
 StopFits clear = Unit {0}
-StopFits (stop why bit) = T (numberFits (number why))
+StopFits (stop x bit) = T (numberFits (x .number))
 
 abbrev pub EndFits : {A : Type 0} → End A → Type 0
 EndFits (reached a) = Unit {0}
-EndFits (refused n) = T (numberFits n)
+EndFits (refused x) = T (numberFits (x .number))
 
 -- every field that the grammar can meet is of its name's and its role's kind, and every refusal is numbered
 pub data Marked {A : Type 0} : Grammar A → Type 0 where
   m-done : {a : A} → Marked (done a)
-  m-refuse : {n : ℕ} → T (numberFits n) → Marked (refuse n)
+  m-refuse : {x : Refusal} → T (numberFits (x .number)) → Marked (refuse x)
   m-field : {i : Item} {w : ℕ} {k : ℕ → Grammar A} → T (kindFits steering (i .name)) → T (roleFits steering (i .role)) → ((v : ℕ) → Marked (k v)) → Marked (field i w k)
   m-free : {i : Item} {w : ℕ} {k : Grammar A} → T (kindFits unsteering (i .name)) → T (roleFits unsteering (i .role)) → Marked k → Marked (free i w k)
   m-span : {i : Item} {w : ℕ} {k : Grammar A} → T (kindFits spanning (i .name)) → T (roleFits spanning (i .role)) → Marked k → Marked (span i w k)
   m-walk : {i : Item} {ws : List ℕ} {k : Grammar A} → T (kindFits spanning (i .name)) → T (roleFits spanning (i .role)) → Marked k → Marked (walk i ws k)
-  m-frame : {x n : ℕ} {k : Grammar A} → T (numberFits x) → Marked k → Marked (frame x n k)
+  m-frame : {x : Refusal} {n : ℕ} {k : Grammar A} → T (numberFits (x .number)) → Marked k → Marked (frame x n k)
   m-here : {k : ℕ → Grammar A} → ((at : ℕ) → Marked (k at)) → Marked (here k)

@@ -4,6 +4,7 @@ use mathlib.Core.List.{List}
 use mathlib.Core.Path.{_≡_}
 use Prim.Native.Nat.{ℕ, _≤_}
 use lib.IntN.{ℤ}
+use Rattle.syntax.specs.Refusals.{full}
 use Rattle.syntax.specs.Run.{refused, Result, parse}
 use Rattle.ac3.specs.Frame.{Audio, syncframe}
 use Rattle.ac3.specs.Promise.{Call, roomFor, withRoom, listed, answerTo}
@@ -24,7 +25,7 @@ pub record SameAnswer (c d : Call) : Type 0 where
 
 pub record MoreRoom : Type 0 where
   -- unless the room was full: of the definition's list, and of a call's answer
-  pub lists : (s : List ℕ) (m n : ℕ) → m ≤ n → ¬ (parse syncframe s m .end ≡ refused 7) → SameList (parse syncframe s n) (parse syncframe s m)
+  pub lists : (s : List ℕ) (m n : ℕ) → m ≤ n → ¬ (parse syncframe s m .end ≡ refused full) → SameList (parse syncframe s n) (parse syncframe s m)
   pub answers : (c : Call) (room : List ℤ) → roomFor c ≤ roomFor (withRoom room c) → ¬ (answerTo c .0 .refusal ≡ 7) → SameAnswer (withRoom room c) c
   -- room for the most rows is as good as any more
   pub enough : (c : Call) (room : List ℤ) → mostRows ≤ roomFor c → mostRows ≤ roomFor (withRoom room c) → SameAnswer (withRoom room c) c

@@ -6,6 +6,8 @@ use Prim.Native.Nat.{ℕ, _*_, _/_, _≤_}
 use lib.IntN.{ℤ}
 use lib.ListN.{length, drop}
 use Rattle.bits.specs.Bits.{bitsBefore}
+use Rattle.syntax.specs.declared.Refusal.{Refusal}
+use Rattle.syntax.specs.Numbers.{rowWidth}
 use Rattle.syntax.specs.Place.{flatten}
 use Rattle.syntax.specs.Demand3.{Alike}
 use Rattle.syntax.specs.Rows.{isSpan, values, Tiles, Agree, ProperBeginning}
@@ -31,7 +33,7 @@ abbrev pub input : Call → List ℕ
 input c = drop (c .place) (c .capture)
 
 abbrev pub roomFor : Call → ℕ
-roomFor c = length (c .room) / 8
+roomFor c = length (c .room) / rowWidth
 
 -- the definition's list of rows, and the bit that it reaches
 abbrev pub listed : Call → List Row
@@ -51,9 +53,9 @@ pub record Promised (c : Call) (a : Answer) (after : List ℤ) : Type 0 where
   pub sound : a .refusal ≡ 0 → Reaches c
   pub complete : Reaches c → a .refusal ≡ 0
   -- and else refused with the number that the definition gives
-  pub which : (n : ℕ) → parse syncframe (input c) (roomFor c) .end ≡ refused n → a .refusal ≡ n
+  pub which : (x : Refusal) → parse syncframe (input c) (roomFor c) .end ≡ refused x → a .refusal ≡ x .number
   -- the rows are the definition's list, in front, and the rest of the room is as it was
-  pub written : after ≡ flatten (listed c) ++ drop (length (listed c) * 8) (c .room)
+  pub written : after ≡ flatten (listed c) ++ drop (length (listed c) * rowWidth) (c .room)
   -- the row count is that list's length, and the bit is the first one not yet read
   pub counted : a .rows ≡ length (listed c)
   pub bit : a .bit ≡ bitOf c

@@ -1,6 +1,6 @@
 -- No part of the definition: what bounds the values that are carried from block to block. Contracts cite it, so that the code's indexes and
 -- sums are in range.
-use Rattle.blocks.specs.Sound.{SoundAlloc, SoundCoupling}
+use Rattle.slots.specs.Sound.{SoundAlloc, SoundCoupling}
 use Rattle.channels.specs.Sound.{SoundBands, SoundBandwidths}
 use Rattle.ac3.specs.declared.State.{State}
 

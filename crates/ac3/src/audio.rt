@@ -2,15 +2,15 @@
 use crate::State;
 use crate::Tally;
 use crate::block::audio_block;
-use blocks::AllocState;
-use blocks::Coupling;
-use blocks::CouplingLeak;
-use blocks::Cover;
-use blocks::Curve;
-use blocks::Deltas;
-use blocks::Offsets;
 use channels::Bandwidths;
 use header::Header;
+use slots::AllocState;
+use slots::Coupling;
+use slots::CouplingLeak;
+use slots::Cover;
+use slots::Curve;
+use slots::NO_DELTAS;
+use slots::Offsets;
 use syntax::Cursor;
 ghost use mathlib.Core.Path.{_≡_};
 ghost use Prim.Native.Nat.{_+_, _<_, _≤_};
@@ -59,10 +59,7 @@ fn unsent() -> State
                 cplfleak: 0,
                 cplsleak: 0,
             },
-            deltas: [Deltas {
-                count: 0,
-                segments: [0; 24],
-            }; 7],
+            deltas: [NO_DELTAS; 7],
         },
     }
 }
@@ -95,7 +92,7 @@ pub fn audio(s: &[u8], rows: &mut [i32], c: Cursor, header: Header) -> AudioRead
     let mut tally = uncounted();
     let mut cursor = c;
     for blk in 0..6 {
-        if cursor.stop != 0 {
+        if cursor.stop.number != 0 {
             return AudioRead { tally, cursor };
         }
         let block = audio_block(

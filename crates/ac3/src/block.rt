@@ -1,27 +1,39 @@
 // audblk (4.3.3): the sections of a block in the order of the syntax table.
 use crate::State;
 use crate::Tally;
-use blocks::AllocState;
-use blocks::delta::deltas;
-use blocks::parameters::coupling_leak;
-use blocks::parameters::curve;
-use blocks::parameters::offsets;
-use channels::coupling::coupling_coordinates;
+use channels::Bandwidths;
+use channels::coordinates::coupling_coordinates;
 use channels::coupling::coupling_strategy;
-use channels::coupling::rematrixing;
-use channels::strategies::bandwidths;
-use channels::strategies::channel_ends;
+use channels::ends::bandwidths;
+use channels::ends::channel_ends;
+use channels::rematrixing::rematrixing;
 use channels::strategies::exponent_strategies;
+use exponents::Layout;
 use exponents::exponents;
 use header::Header;
-use header::info::programmes;
+use header::programmes;
+use mantissas::Block;
 use mantissas::mantissas;
+use parameters::curve::curve;
+use parameters::delta::deltas;
+use parameters::leak::coupling_leak;
+use parameters::offsets::offsets;
+use slots::AllocState;
+use slots::Coupling;
+use slots::Cover;
+use slots::Strategies;
 use syntax::Cursor;
 use syntax::Role;
 use syntax::elements::and_not;
 use syntax::elements::flags;
-use syntax::elements::roled;
+use syntax::elements::note_if;
+use syntax::items::one_roled;
 use syntax::names::*;
+use syntax::readers::flag;
+use syntax::readers::pass;
+use syntax::readers::take;
+use tables::nfchans;
+ghost use mathlib.Core.Bool.{cond, _&&_};
 ghost use mathlib.Core.List.{List};
 ghost use mathlib.Core.Path.{_≡_};
 ghost use Prim.Native.Nat.{ℕ, _+_, _<_, _≤_};
@@ -29,7 +41,10 @@ ghost use Rattle.syntax.specs.Grammar as syntax;
 ghost use Rattle.syntax.specs.Reads.{Reads};
 ghost use Rattle.header.specs.Header as header;
 ghost use Rattle.header.specs.Sound.{SoundHeader};
-ghost use Rattle.blocks.specs.Sound.{SoundAlloc, SoundExps};
+ghost use lib.Dec.{eqb};
+ghost use Rattle.slots.specs.Sound.{SoundAlloc, SoundCoupling, SoundEnds, SoundExps};
+ghost use Rattle.slots.specs.Reused.{Keeps, ReusedBy};
+ghost use Rattle.channels.specs.Sound.{SoundBands, SoundBandwidths};
 ghost use Rattle.mantissas.specs.Kept.{Kept};
 ghost use Rattle.ac3.specs.AudioBlock as grammar;
 ghost use Rattle.ac3.specs.Sound.{SoundState};
@@ -39,10 +54,10 @@ fn dynamic_range(s: &[u8], rows: &mut [i32], c: Cursor, blk: u8, p: u8) -> Curso
     requires { ⌜ p < 2 ⌝ }
     ensures { λ r. ⌜ Reads (grammar.dynamicRange blk p) (now (s .entry)) c (now (rows .entry)) tt r (now (rows .exit)) ⌝ }
 {
-    let exists = roled(blk, Role::DynrngExists(p), DYNRNGE + 2 * p);
-    let dynrnge = syntax::flag(s, rows, c, exists);
-    let dynrng = roled(blk, Role::Dynrng(p), DYNRNG + 2 * p);
-    syntax::note_when(s, rows, dynrnge.cursor, dynrnge.set, dynrng, 8)
+    let exists = one_roled(blk, Role::DynrngExists(p), DYNRNGE + 2 * p);
+    let dynrnge = flag(s, rows, c, exists);
+    let dynrng = one_roled(blk, Role::Dynrng(p), DYNRNG + 2 * p);
+    note_if(s, rows, dynrnge.cursor, dynrnge.set, dynrng, 8)
 }
 
 fn dynamic_ranges(s: &[u8], rows: &mut [i32], c: Cursor, blk: u8, acmod: u8) -> Cursor
@@ -59,11 +74,17 @@ fn dynamic_ranges(s: &[u8], rows: &mut [i32], c: Cursor, blk: u8, acmod: u8) -> 
 fn skip_field(s: &[u8], rows: &mut [i32], c: Cursor, blk: u8) -> Cursor
     ensures { λ r. ⌜ Reads (grammar.skipField blk) (now (s .entry)) c (now (rows .entry)) tt r (now (rows .exit)) ⌝ }
 {
-    let skiple = syntax::flag(s, rows, c, roled(blk, Role::Skiple, SKIPLE));
+    let skiple = flag(s, rows, c, one_roled(blk, Role::Skiple, SKIPLE));
     if skiple.set {
-        let skipl = syntax::take(s, rows, skiple.cursor, roled(blk, Role::Skipl, SKIPL), 9);
-        let skipfld = roled(blk, Role::Skipfld, SKIPFLD);
-        syntax::pass(rows, skipl.cursor, skipfld, 8 * skipl.value as u16)
+        let skipl = take(
+            s,
+            rows,
+            skiple.cursor,
+            one_roled(blk, Role::Skipl, SKIPL),
+            9,
+        );
+        let skipfld = one_roled(blk, Role::Skipfld, SKIPFLD);
+        pass(rows, skipl.cursor, skipfld, 8 * skipl.value as u16)
     } else {
         skiple.cursor
     }
@@ -81,7 +102,27 @@ fn all_sent(chincpl: [bool; 5], cplcoe: [bool; 5]) -> bool
     true
 }
 
+// One block more, or not.
+fn one_more_if(count: u8, more: bool) -> u8
+    requires { ⌜ count < 6 ⌝ }
+    ensures { λ r. ⌜ r ≡ cond more (count + 1) count ⌝ }
+{
+    if more { count + 1 } else { count }
+}
+
 // The first block with coupling decides whether coordinates were sent.
+fn is_first(cplinu: bool, coupled: u8) -> bool
+    ensures { λ r. ⌜ r ≡ (cplinu && eqb coupled 0) ⌝ }
+{
+    cplinu && coupled == 0
+}
+
+fn sent_so_far(first: bool, sent: bool, before: bool) -> bool
+    ensures { λ r. ⌜ r ≡ cond first sent before ⌝ }
+{
+    if first { sent } else { before }
+}
+
 fn counted(blk: u8, start: u16, mantissas: u16, cplinu: bool, sent: bool, t: Tally) -> Tally
     requires { ⌜ (blk < 6) × (t .coupled ≤ blk) ⌝ }
     ensures { λ r. ⌜ r ≡ grammar.counted blk start mantissas cplinu sent t ⌝ }
@@ -92,29 +133,110 @@ fn counted(blk: u8, start: u16, mantissas: u16, cplinu: bool, sent: bool, t: Tal
     let mut mantissa_starts = t.mantissas;
     starts[at] = start;
     mantissa_starts[at] = mantissas;
-    if cplinu {
-        if t.coupled == 0 {
-            Tally {
-                coupled: 1,
-                coordinates: sent,
-                starts,
-                mantissas: mantissa_starts,
-            }
-        } else {
-            Tally {
-                coupled: t.coupled + 1,
-                coordinates: t.coordinates,
-                starts,
-                mantissas: mantissa_starts,
-            }
-        }
-    } else {
-        Tally {
-            coupled: t.coupled,
-            coordinates: t.coordinates,
-            starts,
-            mantissas: mantissa_starts,
-        }
+    Tally {
+        coupled: one_more_if(t.coupled, cplinu),
+        coordinates: sent_so_far(is_first(cplinu, t.coupled), sent, t.coordinates),
+        starts,
+        mantissas: mantissa_starts,
+    }
+}
+
+// Block switches, dither and dynamic range.
+fn channel_settings(s: &[u8], rows: &mut [i32], c: Cursor, blk: u8, acmod: u8) -> Cursor
+    ensures { λ r. ⌜ Reads (grammar.channelSettings blk acmod) (now (s .entry)) c (now (rows .entry)) tt r (now (rows .exit)) ⌝ }
+{
+    let n = nfchans(acmod);
+    let blksw = flags(s, rows, c, blk, BLKSW, n);
+    let dithflag = flags(s, rows, blksw, blk, DITHFLAG, n);
+    dynamic_ranges(s, rows, dithflag, blk, acmod)
+}
+
+// The coupling in force, and which channels have new coordinates.
+pub struct CouplingRead {
+    pub coupling: Coupling,
+    pub cplcoe: [bool; 5],
+    pub cursor: Cursor,
+}
+
+// Coupling strategy and coordinates, and rematrixing.
+fn coupling_section(
+    s: &[u8],
+    rows: &mut [i32],
+    c: Cursor,
+    blk: u8,
+    acmod: u8,
+    old: Coupling,
+) -> CouplingRead
+    requires { ⌜ SoundCoupling old × SoundBands old ⌝ }
+    ensures { λ r. ⌜ Reads (grammar.couplingSection blk acmod old) (now (s .entry)) c (now (rows .entry)) (record { coupling = r .coupling; cplcoe = r .cplcoe }) (r .cursor) (now (rows .exit)) ⌝ }
+    ensures { λ r. ⌜ SoundCoupling (r .coupling) × SoundBands (r .coupling) ⌝ }
+{
+    let n = nfchans(acmod);
+    let strategy = coupling_strategy(s, rows, c, blk, acmod, n, old);
+    let coupling = strategy.coupling;
+    let coordinates = coupling_coordinates(s, rows, strategy.cursor, blk, n, coupling);
+    let cplcoe = coordinates.set;
+    let cursor = rematrixing(s, rows, coordinates.cursor, blk, acmod, coupling);
+    CouplingRead {
+        coupling,
+        cplcoe,
+        cursor,
+    }
+}
+
+// The bandwidths in force and where each channel ends, and the bins that the exponents in force cover. The exponents themselves are lent.
+pub struct ExponentedRead {
+    pub strategies: Strategies,
+    pub bandwidths: Bandwidths,
+    pub ends: [usize; 5],
+    pub cover: Cover,
+    pub cursor: Cursor,
+}
+
+// Exponent strategies, bandwidths and exponents.
+fn exponent_section(
+    s: &[u8],
+    rows: &mut [i32],
+    c: Cursor,
+    exps: &mut [[i16; 256]; 7],
+    blk: u8,
+    header: Header,
+    coupling: Coupling,
+    old: Bandwidths,
+    cover: Cover,
+) -> ExponentedRead
+    requires { ⌜ SoundCoupling coupling × SoundBandwidths old × SoundExps (now exps) ⌝ }
+    ensures { λ r. ⌜ Reads (grammar.exponentSection blk header coupling old (record { cover = cover; exps = now (exps .entry) })) (now (s .entry)) c (now (rows .entry))
+        (record { strategies = r .strategies; bandwidths = r .bandwidths; ends = r .ends; exponents = record { cover = r .cover; exps = now (exps .exit) } }) (r .cursor) (now (rows .exit)) ⌝ }
+    ensures { λ r. ⌜ SoundBandwidths (r .bandwidths) × SoundEnds (r .ends) × SoundExps (now (exps .exit)) ⌝ }
+    ensures { λ r. ⌜ Keeps (ReusedBy (r .strategies)) (now (exps .entry)) (now (exps .exit)) ⌝ }
+{
+    let lfeon = header.lfeon;
+    let n = nfchans(header.acmod);
+    let expstr = exponent_strategies(s, rows, c, blk, n, coupling.cplinu, lfeon);
+    let strategies = expstr.strategies;
+    let chexpstr = strategies.chexpstr;
+    let chbwcod = bandwidths(s, rows, expstr.cursor, blk, n, coupling, chexpstr, old);
+    let bandwidths = chbwcod.bandwidths;
+    let past = channel_ends(chbwcod.cursor, n, coupling, bandwidths);
+    let ends = past.ends;
+    let layout = Layout {
+        blk,
+        nfchans: n,
+        lfeon,
+        coupling,
+        strategies,
+        ends,
+    };
+    let read = exponents(s, rows, past.cursor, exps, layout, cover);
+    let cover = read.cover;
+    let cursor = read.cursor;
+    ExponentedRead {
+        strategies,
+        bandwidths,
+        ends,
+        cover,
+        cursor,
     }
 }
 
@@ -201,69 +323,44 @@ pub fn audio_block(
     ensures { λ _. ⌜ Kept (header .fscod) (now (memos .exit)) (now (exps .exit)) ⌝ }
 {
     let start = c.at;
-    let fscod = header.fscod;
     let acmod = header.acmod;
     let lfeon = header.lfeon;
-    let n = tables::nfchans(acmod);
-    let blksw = flags(s, rows, c, blk, BLKSW, n);
-    let dithflag = flags(s, rows, blksw, blk, DITHFLAG, n);
-    let dynrng = dynamic_ranges(s, rows, dithflag, blk, acmod);
-    let strategy = coupling_strategy(s, rows, dynrng, blk, acmod, n, old.coupling);
-    let coupling = strategy.coupling;
+    let n = nfchans(acmod);
+    let settings = channel_settings(s, rows, c, blk, acmod);
+    let coupled = coupling_section(s, rows, settings, blk, acmod, old.coupling);
+    let coupling = coupled.coupling;
     let cplinu = coupling.cplinu;
-    let coordinates = coupling_coordinates(s, rows, strategy.cursor, blk, n, coupling);
-    let rematrixed = rematrixing(s, rows, coordinates.cursor, blk, acmod, coupling);
-    let expstr = exponent_strategies(s, rows, rematrixed, blk, n, cplinu, lfeon);
-    let new = expstr.strategies;
-    let chexpstr = new.chexpstr;
-    let chbwcod = bandwidths(
+    let read = exponent_section(
         s,
         rows,
-        expstr.cursor,
-        blk,
-        n,
-        coupling,
-        chexpstr,
-        old.bandwidths,
-    );
-    let bandwidths = chbwcod.bandwidths;
-    let past = channel_ends(chbwcod.cursor, n, coupling, bandwidths);
-    let ends = past.ends;
-    let at = past.cursor;
-    let exp = exponents(
-        s,
-        rows,
-        at,
+        coupled.cursor,
         exps,
-        memos,
         blk,
-        n,
-        lfeon,
+        header,
         coupling,
-        new,
-        ends,
+        old.bandwidths,
         old.cover,
     );
-    let cover = exp.cover;
-    let bai = alloc_state(s, rows, exp.cursor, blk, n, cplinu, lfeon, old.alloc);
+    let strategies = read.strategies;
+    let bandwidths = read.bandwidths;
+    let ends = read.ends;
+    let cover = read.cover;
+    let bai = alloc_state(s, rows, read.cursor, blk, n, cplinu, lfeon, old.alloc);
     let alloc = bai.alloc;
     let at = skip_field(s, rows, bai.cursor, blk);
-    let mant = mantissas(
-        rows,
-        at,
+    let block = Block {
         blk,
-        fscod,
-        n,
+        fscod: header.fscod,
+        nfchans: n,
         lfeon,
         coupling,
+        strategies,
         ends,
-        alloc,
-        exps,
-        memos,
-    );
+    };
+    let mant = mantissas(rows, at, block, alloc, exps, memos);
     let cursor = mant.cursor;
     let chincpl = coupling.chincpl;
-    let cplcoe = coordinates.set;
+    let cplcoe = coupled.cplcoe;
     let sent = all_sent(chincpl, cplcoe);
     let tally = counted(blk, start, mant.start, cplinu, sent, tally);
     BlockRead {

@@ -2,14 +2,15 @@
 mod audio;
 mod block;
 
-use blocks::AllocState;
-use blocks::Coupling;
-use blocks::Cover;
 use channels::Bandwidths;
 use header::Header;
-use header::info;
+use slots::AllocState;
+use slots::Coupling;
+use slots::Cover;
 use syntax::Cursor;
-use syntax::START;
+use syntax::cursors::START;
+use syntax::cursors::halt;
+use syntax::refusals::TOO_SHORT;
 ghost use mathlib.Core.Path.{_≡_};
 ghost use Rattle.syntax.specs.Place.{exec, fresh};
 ghost use Rattle.ac3.specs.Frame as grammar;
@@ -54,10 +55,10 @@ pub struct Answer {
 
 // The answer where reading stopped: its summary is all zeros.
 fn refused(c: Cursor) -> Answer
-    ensures { λ r. ⌜ r ≡ record { refusal = c .stop; rows = c .count; bit = c .at; summary = grammar.noSummary } ⌝ }
+    ensures { λ r. ⌜ r ≡ record { refusal = c .stop .number; rows = c .count; bit = c .at; summary = grammar.noSummary } ⌝ }
 {
     Answer {
-        refusal: c.stop,
+        refusal: c.stop.number,
         rows: c.count,
         bit: c.at,
         summary: Summary {
@@ -84,16 +85,16 @@ fn refused(c: Cursor) -> Answer
 fn syncframe(s: &[u8], rows: &mut [i32]) -> Answer
     ensures { λ r. ⌜ (r, now (rows .exit)) ≡ grammar.answered (exec grammar.syncframe (now (s .entry)) (fresh (now (rows .entry)))) ⌝ }
 {
-    let head = info::header(s, rows, START);
+    let head = header::read(s, rows, START);
     let header = head.header;
     let cursor = head.cursor;
-    if cursor.stop != 0 {
+    if cursor.stop.number != 0 {
         return refused(cursor);
     }
     let read = audio::audio(s, rows, cursor, header);
     let tally = read.tally;
     let cursor = read.cursor;
-    if cursor.stop != 0 {
+    if cursor.stop.number != 0 {
         return refused(cursor);
     }
     let count = cursor.count;
@@ -119,12 +120,7 @@ pub fn parse(capture: &[u8], place: usize, rows: &mut [i32]) -> Answer
     ensures { λ r. ⌜ Within (call (now (capture .entry)) place (now (rows .entry))) r (now (rows .exit)) ⌝ }
 {
     if capture.len() < place {
-        return refused(Cursor {
-            at: 0,
-            limit: 0,
-            count: 0,
-            stop: 1,
-        });
+        return refused(halt(START, TOO_SHORT));
     }
     syncframe(&capture[place..], rows)
 }

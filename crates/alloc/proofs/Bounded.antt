@@ -1,22 +1,21 @@
 -- How far the definition's levels are from 0: bounds on the definition, which the loops' steps cite. Assumes nothing.
-use mathlib.Core.Path.{_≡_, refl}
+use mathlib.Core.Path.{_≡_, refl, ap, sym, _∙_}
 use mathlib.Core.Bool.{not, _&&_}
 use mathlib.Core.List.{List}
 use Prim.Native.Nat.{ℕ, zero, suc, _+_, _*_, _/_, _^_, _≤_, _<_, min}
 use native.Mathlib.Omega.{arith}
 use native.Mathlib.Nat.{lt-of-lt-of-le, pow-succ'}
 use native.Mathlib.Numerals.{add-one}
-use lib.Dec.{T, leb, ltb, lit<, leb→le}
-use lib.IntN.{ℤ, pos, negsuc, natAbs, _+ℤ_, _-ℤ_, _*ℤ_}
-use lib.ListN.{getD}
+use lib.Dec.{T, leb, ltb, leb→le}
+use lib.IntN.{ℤ, pos, negsuc, natAbs, negℤ, _+ℤ_, _-ℤ_, _*ℤ_, +ℤ-idl, +ℤ-comm, +ℤ-negℤ-cancel}
 use lib.Signed.{mag, ltZ, _≤ℤ_}
 use Rattle.signed.specs.Level.{maxZ, eqZ}
-use Rattle.signed.specs.Bound.{Below, bounds, mag-add, mag-cond, below-is, below-u16, below-more, below-add, below-shr, below-128, below-lit, below-cond, below-fall}
-use Rattle.signed.specs.Order.{plus-mono, plus-above}
-use Rattle.tables.specs.Tables.{logAdd}
+use Rattle.signed.specs.Bound.{Below}
+use Rattle.signed.proofs.Bounds.{bounds, mag-add, mag-cond, below-is, below-u16, below-more, below-add, below-shr, below-128, below-lit, below-cond, below-fall}
+use Rattle.signed.proofs.Order.{plus-mono, plus-above}
 use Rattle.alloc.specs.Allocation.{at, psdOf, psdAt, logadd, lowcomp, bandSum, lfeLast, lowAfter, fallTo, overKnee, kept, threshold, deltaOf}
 use Rattle.alloc.specs.Sound.{Exponents}
-use Rattle.alloc.specs.Steps.{relative, relativeAt}
+use Rattle.alloc.specs.Stages.{relative, relativeAt}
 use Rattle.tables.proofs.Rule.{log-add-at-most}
 
 -- the sum is between the larger level and 64 more
@@ -54,13 +53,22 @@ natural (negsuc n) low high = absurd (low .le)
 exponent-below : (z : ℤ) → pos 0 ≤ℤ z → z ≤ℤ pos 24 → Below 5 z
 exponent-below z low high = let e = natural z low high in below-is (e .0) (record { below = omega arith })
 
-pub relative-below : (exponents : List ℤ) → Exponents exponents → (bin : ℕ) → Below 13 (relativeAt exponents bin)
-unfolding relative
-relative-below exponents all bin = let e = exponent-below (at exponents bin) (all bin .0) (all bin .1) in search (bounds, below-128) depth 12
-
 pub level-below : (exponents : List ℤ) → Exponents exponents → (bin : ℕ) → Below 13 (psdAt exponents bin)
 unfolding psdOf
 level-below exponents all bin = let e = exponent-below (at exponents bin) (all bin .0) (all bin .1) in search (bounds, below-128) depth 12
+
+relative-is : (z : ℤ) → relative z ≡ pos 0 -ℤ z *ℤ pos 128
+unfolding relative psdOf
+relative-is z =
+    ap (λ (y : ℤ). y -ℤ pos 3072) (+ℤ-comm (pos 3072) (negℤ (z *ℤ pos 128)))
+    ∙ +ℤ-negℤ-cancel (negℤ (z *ℤ pos 128)) (pos 3072)
+    ∙ sym (+ℤ-idl (negℤ (z *ℤ pos 128)))
+
+pub relative-small : (z : ℤ) → pos 0 ≤ℤ z → z ≤ℤ pos 24 → Below 13 (relative z)
+relative-small z low high = let e = exponent-below z low high in below-is (relative-is z) (search (bounds, below-128) depth 12)
+
+pub relative-below : (exponents : List ℤ) → Exponents exponents → (bin : ℕ) → Below 13 (relativeAt exponents bin)
+relative-below exponents all bin = relative-small (at exponents bin) (all bin .0) (all bin .1)
 
 pub fall-below : {k : ℕ} (leak : ℤ) (decay : ℕ) (floor : ℤ) → Below k leak → Below k floor → Below k (fallTo leak decay floor)
 unfolding fallTo

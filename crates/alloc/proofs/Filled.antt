@@ -1,7 +1,7 @@
 -- A loop that fills a list from one place on: after each store the list's entries are those of the definition, one place further.
 -- Assumes nothing.
 use mathlib.Core.Path.{_≡_, refl, sym, ap, _∙_}
-use mathlib.Core.Bool.{Bool, true, false, _&&_}
+use mathlib.Core.Bool.{and-false}
 use mathlib.Core.List.{List}
 use mathlib.Core.Logic.{_≢_}
 use Prim.Native.Nat.{ℕ, zero, suc, _+_, _≤_, _<_, max}
@@ -13,10 +13,6 @@ use lib.ListN.{length, getD, set, replicate, length-set}
 use lib.Seq.{getD-set-same, getD-set-other}
 use borrow.Author.Tests.{le-leb, lt-leb, lt-ltb, le-ltb}
 use Rattle.alloc.specs.Fills.{filled, within, Fills}
-
-both-no : (b : Bool) → (b && false) ≡ false
-both-no true = refl
-both-no false = refl
 
 -- two functions that agree everywhere are one
 pub everywhere : {A B : Type 0} {f g : A → B} → ((x : A) → f x ≡ g x) → f ≡ g
@@ -36,7 +32,7 @@ module _ {A : Type 0} (g before : ℕ → A) (from : ℕ) where
   filled-below to k p = rw (lt-leb from k p)
 
   pub filled-above : (to k : ℕ) → to ≤ k → filled from to g before k ≡ before k
-  filled-above to k p = rw (le-ltb k to p, both-no (leb from k))
+  filled-above to k p = rw (le-ltb k to p, and-false (leb from k))
 
   pub filled-empty : (to : ℕ) → to ≤ from → (k : ℕ) → filled from to g before k ≡ before k
   filled-empty to h k = by (decLt k from)

@@ -1,6 +1,6 @@
 -- What is noted of a function is the function, between the two places; and what the bands leave one after the other is what they leave by number.
 -- Assumes nothing.
-use mathlib.Core.List.{List, _∷_}
+use mathlib.Core.List.{List, [], _∷_}
 use mathlib.Core.Path.{_≡_, refl, ap, ap₂, sym, _∙_}
 use Prim.Native.Nat.{ℕ, zero, suc, _+_, _-_, _≤_, _<_}
 use native.Mathlib.Decide.{decLe, decLt}
@@ -28,6 +28,17 @@ module _ {A : Type 0} (f : ℕ → A) (d : A) where
   from-past zero first i h = refl
   from-past (suc n) first zero h = absurd (omega arith)
   from-past (suc n) first (suc i) h = from-past n (suc first) i (omega arith)
+
+pub from-none : {A : Type 0} (first : ℕ) (f : ℕ → A) → from first 0 f ≡ []
+unfolding from
+from-none first f = refl
+
+-- what holds of every place, and of what stands past the list, holds of the list
+pub from-all : {A : Type 0} (P : A → Type 0) (f : ℕ → A) (d : A) → P d → ((k : ℕ) → P (f k)) → (n first i : ℕ) → P (getD (from first n f) i d)
+unfolding from
+from-all P f d past all zero first i = past
+from-all P f d past all (suc n) first zero = all first
+from-all P f d past all (suc n) first (suc i) = from-all P f d past all n (suc first) i
 
 pub from-length : {A : Type 0} (f : ℕ → A) (n first : ℕ) → length (from first n f) ≡ n
 unfolding from

@@ -3,7 +3,8 @@ use Prim.Native.Nat.{ℕ, suc, _*_, _<_, _^_}
 use native.Mathlib.Omega.{arith}
 use lib.IntN.{ℤ, pos, negsuc, _+ℤ_, _-ℤ_, _*ℤ_}
 use lib.Signed.{mag}
-use Rattle.signed.specs.Bound.{Below, bounds, below-16, neg-pos}
+use Rattle.signed.specs.Bound.{Below}
+use Rattle.signed.proofs.Bounds.{bounds, below-16, neg-pos}
 use Rattle.alloc.specs.Allocation.{snrOffset}
 
 four : (z : ℤ) {n : ℕ} → mag z < n → mag (z *ℤ pos 4) < n * 4

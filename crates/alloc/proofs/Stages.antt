@@ -1,23 +1,22 @@
 -- The stages of the code are those of the definition, and how far each is from 0. Assumes nothing.
 use mathlib.Core.Bool.{_&&_}
-use mathlib.Core.Path.{_≡_, _∙_, refl, sym, ap, ap₂}
+use mathlib.Core.Path.{_≡_, _∙_, sym, ap, ap₂}
 use mathlib.Core.List.{List}
-use Prim.Native.Nat.{ℕ, zero, suc, _+_, _-_, _*_, _≤_, _<_, _^_, min, max}
+use Prim.Native.Nat.{ℕ, zero, suc, _+_, _-_, _≤_, _<_, min, max}
 use native.Mathlib.Omega.{arith}
 use lib.Dec.{leb, ltb}
 use lib.IntN.{ℤ, pos, _+ℤ_}
-use lib.ListN.{getD}
 use lib.Pow.{pow-pos}
-use Rattle.signed.specs.Bound.{Below, below-lit, below-cond, below-down, below-sub}
-use Rattle.tables.specs.Tables.{hearing}
+use Rattle.signed.specs.Bound.{Below}
+use Rattle.signed.proofs.Bounds.{below-cond}
 use Rattle.alloc.specs.Allocation.{from, psdAt, mappedPsd, bandSum, bandOf, startOf, endOf, bandPsd, bndstrt, bndend, integratedPsd, leakBefore, excitation, maskOf, maskingCurve, deltaSum, deltaApplied, threshold, thresholds, bapOf, pointers, allocation}
-use Rattle.alloc.specs.Sound.{Bounded, Exponents}
+use Rattle.alloc.specs.Sound.{Exponents}
 use Rattle.alloc.specs.Fills.{within}
 use Rattle.alloc.specs.Leaks.{exciteAt}
-use Rattle.alloc.specs.Steps.{bandsOf, thresholdsOf, stepOf, stepAt, stepBy}
+use Rattle.alloc.specs.Stages.{bandsOf, thresholdsOf, thresholdAt, thresholdBy}
 use Rattle.alloc.specs.Band.{InBand}
 use Rattle.alloc.specs.declared.Parameters.{Parameters}
-use Rattle.alloc.proofs.Bands.{rising, in-order, start-mono, end-mono}
+use Rattle.alloc.proofs.BandEnds.{rising, start-mono, end-mono}
 use Rattle.alloc.proofs.Bounded.{band-below, level-below, threshold-below}
 use Rattle.alloc.proofs.Filled.{filled-same, everywhere}
 use Rattle.alloc.proofs.Noted.{from-same, placed-in, noted-in, noted-is, excitation-at}
@@ -86,18 +85,16 @@ module _ (exponents : List ℤ) (p : Parameters) where
         (noted-in (bndstrt p) (bndend p) _ band a b
         ∙ ap (λ (e : ℤ). maskOf e (bandsOf exponents p band) (p .dbknee) (p .fscod) band) (excite-is (bandsOf exponents p) band a b)))
 
-    pub step-is : (excite delta : ℕ → ℤ) → excite band ≡ exciteOf (bandsOf exponents p) band → delta band ≡ deltaSum (p .segments) band (p .count)
-        → stepBy excite (bandsOf exponents p) delta (p .dbknee) (p .fscod) (p .snroffset) (p .floor) band ≡ stepOf (thresholdsOf exponents p band)
-    unfolding stepAt maskOf
-    step-is excite delta e d =
-        ap stepOf
-        (ap₂ (λ (x y : ℤ). threshold (maskOf x (bandsOf exponents p band) (p .dbknee) (p .fscod) band +ℤ y) (p .snroffset) (p .floor)) e d
-        ∙ sym threshold-is)
+    pub threshold-by : (excite delta : ℕ → ℤ) → excite band ≡ exciteOf (bandsOf exponents p) band → delta band ≡ deltaSum (p .segments) band (p .count)
+        → thresholdBy excite (bandsOf exponents p) delta (p .dbknee) (p .fscod) (p .snroffset) (p .floor) band ≡ thresholdsOf exponents p band
+    unfolding thresholdAt maskOf
+    threshold-by excite delta e d =
+        ap₂ (λ (x y : ℤ). threshold (maskOf x (bandsOf exponents p band) (p .dbknee) (p .fscod) band +ℤ y) (p .snroffset) (p .floor)) e d
+        ∙ sym threshold-is
 
-    -- a step has few bits, whatever the input
-    pub step-below : Below 11 (p .floor) → Below 10 (stepOf (thresholdsOf exponents p band))
-    unfolding stepOf
-    step-below h = rw threshold-is (below-down 5 (below-sub {k = 15} (below-lit tt) (threshold-below _ (p .snroffset) (p .floor) h) tt))
+    -- a threshold has few bits, whatever the input
+    pub limit-below : Below 11 (p .floor) → Below 14 (thresholdsOf exponents p band)
+    limit-below h = rw threshold-is (threshold-below _ (p .snroffset) (p .floor) h)
 
   -- the pointers, bin by bin
   pub pointers-are : (f : ℕ → ℕ) → ((bin : ℕ) → p .start ≤ bin → bin < p .end → f bin ≡ bapOf (psdAt exponents bin) (thresholdsOf exponents p (bandOf bin)))

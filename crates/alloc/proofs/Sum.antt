@@ -1,21 +1,21 @@
 -- Sums of levels: of two, by their difference; and sums of levels that are all less by a constant are less by that constant.
 -- Assumes nothing.
+use mathlib.Core.List.{List}
 use mathlib.Core.Path.{_≡_, refl, sym, ap, ap₂, _∙_, subst}
 use mathlib.Core.Bool.{Bool, true, false, not, cond, _&&_}
-use mathlib.Core.List.{List}
 use Prim.Native.Nat.{ℕ, zero, suc, _+_, _/_, _≤_, _<_, min, zero-le}
 use native.Mathlib.Omega.{arith}
 use lib.Dec.{T, leb, ltb, ltb→lt, leb·suc-suc}
-use lib.IntN.{ℤ, pos, negsuc, sucℤ, predℤ, negℤ, natAbs, suc-pred, negℤ-sucℤ, _+ℤ_, _-ℤ_, _*ℤ_, +ℤ-idl, +ℤ-idr, +ℤ-comm, +ℤ-sucℤ, +ℤ-predℤ, sucℤ-+ℤ}
+use lib.IntN.{ℤ, pos, negsuc, sucℤ, predℤ, negℤ, natAbs, suc-pred, negℤ-sucℤ, _+ℤ_, _-ℤ_, +ℤ-idr, +ℤ-sucℤ, +ℤ-predℤ, sucℤ-+ℤ, -ℤ-+ℤ-cancel}
 use lib.ListN.{getD}
 use lib.Signed.{ltZ, leZ, nonNeg}
 use borrow.Author.Tests.{lt-ltb, le-ltb, le-leb, ltb-true, ltb-false}
 use Rattle.signed.specs.Level.{maxZ}
 use Rattle.tables.specs.Tables.{logAdd}
 use Rattle.tables.proofs.Rule.{log-add-rule}
-use Rattle.tables.proofs.Rules.{both-right}
+use store.Enc.{and-r}
 use Rattle.alloc.specs.Allocation.{at, logadd, psdOf, psdAt, bandSum}
-use Rattle.alloc.specs.Steps.{relative, relativeAt}
+use Rattle.alloc.specs.Stages.{relative, relativeAt}
 
 -- ---- the larger of two, by the sign of their difference
 
@@ -62,7 +62,7 @@ far a b m e h =
 -- ---- what the tests on a difference tell
 
 pub near-test : (z : ℤ) → (leZ (pos 0) z && ltZ z (pos 512)) ≡ true → T (nonNeg z) × (natAbs z < 512)
-near-test (pos n) e = (tt, ltb→lt n 512 (both-right (leb 0 n) (ltb n 512) (subst T (sym e) tt)))
+near-test (pos n) e = (tt, ltb→lt n 512 (and-r (leb 0 n) (ltb n 512) (subst T (sym e) tt)))
 near-test (negsuc n) e = absurd (subst T (sym e) tt)
 
 pub far-test : (z : ℤ) → (leZ (pos 0) z && ltZ z (pos 512)) ≡ false → leZ (pos 0) z ≡ true → T (nonNeg z) × (512 ≤ natAbs z)
@@ -112,9 +112,8 @@ logadd-more (suc n) a b =
     ap₂ logadd (+ℤ-sucℤ a (pos n)) (+ℤ-sucℤ b (pos n)) ∙ logadd-suc (a +ℤ pos n) (b +ℤ pos n) ∙ ap sucℤ (logadd-more n a b) ∙ sym (+ℤ-sucℤ (logadd a b) (pos n))
 
 level-more : (e : ℤ) → psdOf e ≡ relative e +ℤ pos 3072
-unfolding psdOf relative
-level-more e =
-    +ℤ-comm (pos 3072) (negℤ (e *ℤ pos 128)) ∙ ap (λ (z : ℤ). z +ℤ pos 3072) (sym (+ℤ-idl (negℤ (e *ℤ pos 128))))
+unfolding relative
+level-more e = sym (-ℤ-+ℤ-cancel (psdOf e) (pos 3072))
 
 pub sum-more : (exponents : List ℤ) (first n : ℕ) → bandSum (relativeAt exponents) first n +ℤ pos 3072 ≡ bandSum (psdAt exponents) first n
 unfolding bandSum

@@ -1,7 +1,7 @@
 -- A loop that fills a part of an array with what a list has, has written the list there. Assumes nothing.
 use mathlib.Core.List.{List, [], _∷_}
 use mathlib.Core.Path.{_≡_, refl, ap, sym, _∙_}
-use Prim.Native.Nat.{ℕ, suc, _+_, _-_, _≤_, _<_}
+use Prim.Native.Nat.{ℕ, zero, suc, _+_, _-_, _≤_, _<_}
 use native.Mathlib.Decide.{ℕ-discrete, decLe, decLt}
 use native.Mathlib.Omega.{arith}
 use lib.ListN.{length, getD, set, length-set}
@@ -52,6 +52,26 @@ module _ {A : Type 0} (d : A) where
           ∙ getD-set-other l i k a d e
           ∙ sym (filled-above whole old i (i + suc (length vs)) k (omega arith))
 
+  -- a list that was written is read back
+  pub sets-back : (vs l : List A) (i : ℕ) → i + length vs ≤ length l → from i (length vs) (λ k. getD (sets l i vs) k d) ≡ vs
+  sets-back vs l i h =
+      ext-getD d _ vs (from-length _ (length vs) i)
+      (λ k p.
+      let long = from-length (λ j. getD (sets l i vs) j d) (length vs) i in
+      let back : i + k - i ≡ k = omega arith in
+      from-at _ d (length vs) i k (omega arith)
+      ∙ sets-at vs l i (i + k) h
+      ∙ filled-in (λ j. getD vs (j - i) d) (λ j. getD l j d) i (i + length vs) (i + k) (omega arith) (omega arith)
+      ∙ ap (λ (j : ℕ). getD vs j d) back)
+
+  -- what held of every entry, and holds of each that is written, still does
+  set-all : (P : A → Type 0) (l : List A) (i : ℕ) (a : A) → ((k : ℕ) → P (getD l k d)) → P a → (k : ℕ) → P (getD (set l i a) k d)
+  set-all P [] i a all one k = all k
+  set-all P (x ∷ xs) zero a all one zero = one
+  set-all P (x ∷ xs) zero a all one (suc k) = all (suc k)
+  set-all P (x ∷ xs) (suc i) a all one zero = all 0
+  set-all P (x ∷ xs) (suc i) a all one (suc k) = set-all P xs i a (λ j. all (suc j)) one k
+
   pub fills-sets : (g : ℕ → A) (first last : ℕ) {x y : List A} → last ≤ length x → Fills d first last g x y → y ≡ sets x first (from first (last - first) g)
   fills-sets g first last {x} {y} h f = by (decLe first last)
     where
@@ -70,3 +90,7 @@ module _ {A : Type 0} (d : A) where
           let none : last - first ≡ 0 = omega arith in
           ext-getD d y x (f .long) (λ k q. f .entries k ∙ filled-empty g (λ j. getD x j d) first last (omega arith) k)
           ∙ rw none (nothing x first g)
+
+pub sets-all : {A : Type 0} (P : A → Type 0) (d : A) (vs l : List A) (i : ℕ) → ((k : ℕ) → P (getD l k d)) → ((k : ℕ) → P (getD vs k d)) → (k : ℕ) → P (getD (sets l i vs) k d)
+sets-all P d [] l i all each = all
+sets-all P d (a ∷ vs) l i all each = sets-all P d vs (set l i a) (suc i) (set-all d P l i a all (each 0)) (λ k. each (suc k))

@@ -3,4 +3,4 @@ pub mod Sound
 pub mod Band
 pub mod Fills
 pub mod Leaks
-pub mod Steps
+pub mod Stages

@@ -1,5 +1,5 @@
--- What bounds the allocation's parameters, so that the code's sums fit and its indexes are in range. Contracts cite it; the definition does without.
--- Assumes nothing.
+-- What bounds the allocation's parameters, so that the code's sums fit and its indexes are in range. No part of the
+-- definition: contracts cite it. Assumes nothing.
 use mathlib.Core.List.{List}
 use Prim.Native.Nat.{ℕ, _≤_, _<_}
 use lib.IntN.{ℤ, pos}

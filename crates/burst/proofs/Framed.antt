@@ -15,11 +15,13 @@ use Rattle.bits.specs.Bits.{bitAt, value}
 use Rattle.bits.proofs.Determine.{value-of-bits}
 use Rattle.bits.proofs.Window.{value-lt}
 use Rattle.tables.specs.Tables.{frameBytes}
+use Rattle.syntax.specs.declared.Refusal.{Refusal}
+use Rattle.syntax.specs.Refusals.{notSync, noFrameSize}
 use Rattle.syntax.specs.Grammar.{Grammar, done, refuse, field, free, span, walk, frame, here, _>>=_, refuseIf}
 use Rattle.syntax.specs.Later.{Past, TooShort, sized, resized}
 use Rattle.syntax.specs.Place.{Place, finish}
 use Rattle.syntax.specs.Rows.{Tiles}
-use Rattle.syntax.specs.Run.{Row, Spot, End, reached, refused, Result, judged, Check, clear, stop, unless, run, rowCheck, walkCheck, frameCheck, sum, beyond, within, start, parse, endOf}
+use Rattle.syntax.specs.Run.{Row, Spot, End, reached, refused, Result, Check, clear, stop, unless, run, rowCheck, walkCheck, frameCheck, sum, beyond, within, start, parse, endOf}
 use Rattle.syntax.proofs.Later.{only-what-was-read, appending}
 use Rattle.header.specs.Header.{syncinfo, bsi, header}
 use Rattle.header.specs.declared.Header.{Header}
@@ -138,10 +140,10 @@ module _ {A B : Type 0} (R : ℕ → A → Type 0) (S : ℕ → B → Type 0) (f
   asks-then (frame x n k) y = (inr (yields-then (R n) (S n) f (asked n) k (owed k (y .0))), asks-then k (y .1))
   asks-then (here k) y = λ at. asks-then (k at) (y at)
 
-past : {B : Type 0} (S : ℕ → B → Type 0) (b : Bool) (n : ℕ) (f : Unit {0} → Grammar B) → Asks S (f tt) → Asks S (refuseIf b n >>= f)
+past : {B : Type 0} (S : ℕ → B → Type 0) (b : Bool) (x : Refusal) (f : Unit {0} → Grammar B) → Asks S (f tt) → Asks S (refuseIf b x >>= f)
 unfolding _>>=_
-past S true n f y = tt
-past S false n f y = y
+past S true x f y = tt
+past S false x f y = y
 
 -- ---- a run that is accepted does not end too short on as many bytes as its answer asks for
 
@@ -198,8 +200,8 @@ asks-sync : Asks (λ n (x : ℕ × ℕ). Enough n (x .1)) syncinfo
 unfolding syncinfo _>>=_
 asks-sync = (
   inl (λ x. six (x .1)),
-  λ syncword _. past _ (not (eqb syncword 0x0B77)) 2 _
-      (λ fscod _ code _. past _ (eqb (frameBytes fscod code) 0) 3 _ (inr (own (frameBytes fscod code)), tt)),
+  λ syncword _. past _ (not (eqb syncword 0x0B77)) notSync _
+      (λ fscod _ code _. past _ (eqb (frameBytes fscod code) 0) noFrameSize _ (inr (own (frameBytes fscod code)), tt)),
 )
 
 module _ (n : ℕ) where
@@ -241,7 +243,7 @@ told-of e e′ p p′ end count at = same e p p′ count at ∙ ap (λ e. answer
   where
     same : (e : End Audio) (p p′ : Place) → p .count ≡ p′ .count → p .at ≡ p′ .at → answered (finish e p) .0 ≡ answered (finish e p′) .0
     same (reached a) p p′ count at = λ i. record { refusal = 0; rows = count i; bit = at i; summary = summaryOf (count i) a }
-    same (refused n) p p′ count at = λ i. record { refusal = n; rows = count i; bit = at i; summary = noSummary }
+    same (refused x) p p′ count at = λ i. record { refusal = x .number; rows = count i; bit = at i; summary = noSummary }
 
 module _ (c : Call) (ok : Accepted c) where
   abbrev s : List ℕ

@@ -6,7 +6,8 @@ use native.Mathlib.Omega.{arith}
 use lib.ListN.{length, drop, replicate, length-append, length-replicate}
 use lib.Seq.{sets}
 use Rattle.writer.specs.Words.{wordBytes}
-use Rattle.writer.proofs.Written.{sets-append, in-front}
+use Rattle.naturals.proofs.Stored.{sets-append}
+use Rattle.writer.proofs.Written.{in-front}
 use Rattle.burst.specs.Burst.{burstBytes, headBytes, typeWord, head, burstOf}
 
 module _ (bsmod : ℕ) (frame : List ℕ) (fits : headBytes + length frame ≤ burstBytes) where
@@ -19,8 +20,8 @@ module _ (bsmod : ℕ) (frame : List ℕ) (fits : headBytes + length frame ≤ b
   module _ (out : List ℕ) (room : burstBytes ≤ length out) where
     put-all : sets (sets (sets out 0 (head bsmod (length frame))) headBytes frame) (headBytes + length frame) zeros ≡ burstOf bsmod frame ++ drop burstBytes out
     put-all =
-        sym (sets-append frame zeros (sets out 0 (head bsmod (length frame))) headBytes)
-        ∙ sym (sets-append (head bsmod (length frame)) (frame ++ zeros) out 0)
+        sym (sets-append frame zeros (sets out 0 (head bsmod (length frame))) headBytes (headBytes + length frame) refl)
+        ∙ sym (sets-append (head bsmod (length frame)) (frame ++ zeros) out 0 headBytes refl)
         ∙ in-front (burstOf bsmod frame) out (omega (arith, burst-long))
         ∙ ap (λ n. burstOf bsmod frame ++ drop n out) burst-long
 

@@ -15,6 +15,19 @@ const BURST: usize = 6144;
 
 const HEAD: usize = 8;
 
+// The refusals that are not the frame's own (the table of docs/FORMAT.md).
+const NO_ROOM: u8 = 28;
+
+const NOT_A_BURST: u8 = 30;
+
+const WRONG_WORDS: u8 = 31;
+
+const WRONG_LENGTH: u8 = 32;
+
+const NOT_ZERO: u8 = 33;
+
+const OTHER_MODE: u8 = 34;
+
 // Refusal 0: done. The rows that the parse left, and the bytes written to the output.
 pub struct Answer {
     pub refusal: u8,
@@ -65,7 +78,7 @@ pub fn burst_write(capture: &[u8], place: usize, rows: &mut [i32], out: &mut [u8
         return refused(parsed.refusal, count);
     }
     if out.len() < BURST {
-        return refused(28, count);
+        return refused(NO_ROOM, count);
     }
     let summary = parsed.summary;
     let header = summary.header;
@@ -121,10 +134,10 @@ pub fn burst_read(burst: &[u8], rows: &mut [i32], out: &mut [u8]) -> Answer
     ensures { λ r. ⌜ (r, (now (rows .exit), now (out .exit))) ≡ answers.read (now (burst .entry)) (now (rows .entry)) (now (out .entry)) ⌝ }
 {
     if burst.len() != BURST {
-        return refused(30, 0);
+        return refused(NOT_A_BURST, 0);
     }
     if !opens(burst) {
-        return refused(31, 0);
+        return refused(WRONG_WORDS, 0);
     }
     let parsed = ac3::parse(burst, HEAD, rows);
     let count = parsed.rows;
@@ -135,17 +148,17 @@ pub fn burst_read(burst: &[u8], rows: &mut [i32], out: &mut [u8]) -> Answer
     let header = summary.header;
     let bytes = header.bytes as usize;
     if word(burst, 3) != 8 * bytes {
-        return refused(32, count);
+        return refused(WRONG_LENGTH, count);
     }
     let end = HEAD + bytes;
     if !zeros(burst, end) {
-        return refused(33, count);
+        return refused(NOT_ZERO, count);
     }
     if word(burst, 2) / 256 % 8 != bsmod(rows, count) as usize {
-        return refused(34, count);
+        return refused(OTHER_MODE, count);
     }
     if out.len() < bytes {
-        return refused(28, count);
+        return refused(NO_ROOM, count);
     }
     writer::copy(&burst[HEAD..end], out, 0);
     Answer {

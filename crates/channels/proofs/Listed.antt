@@ -5,19 +5,13 @@ use native.Mathlib.Omega.{arith}
 use mathlib.Core.Bool.{Bool, true, false}
 use mathlib.Core.List.{List, [], _∷_}
 use mathlib.Core.Path.{_≡_, refl, ap}
-use lib.ListN.{length, getD, drop}
+use lib.ListN.{length, getD, drop, drop-of-length-le}
 use lib.Seq.{drop-cons}
 use Rattle.channels.specs.Coupling.{howMany}
 
 module _ (l : List Bool) (i : ℕ) where
   pub more : (b : Bool) → i < length l → getD l i false ≡ b → drop i l ≡ b ∷ drop (i + 1) l
   more b h e = rw (add-one, drop-cons l i false) (ap (λ x. x ∷ drop (suc i) l) e)
-
-pub no-more : {A : Type 0} (l : List A) (i : ℕ) → length l ≤ i → drop i l ≡ []
-no-more [] zero h = refl
-no-more [] (suc i) h = refl
-no-more (b ∷ l) zero h = absurd (omega arith)
-no-more (b ∷ l) (suc i) h = no-more l i (omega arith)
 
 -- ---- at entry i, n of the entries before it are set
 
@@ -40,4 +34,4 @@ module _ {l : List Bool} where
 
     pub all-counted : length l ≤ i → n ≡ howMany l
     unfolding howMany
-    all-counted h = omega (arith, t .left, ap howMany (no-more l i h))
+    all-counted h = omega (arith, t .left, ap howMany (drop-of-length-le l h))

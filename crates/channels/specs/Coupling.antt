@@ -4,10 +4,11 @@ use mathlib.Core.List.{List, [], _∷_}
 use Prim.Native.Nat.{ℕ, _+_, _-_}
 use lib.Dec.{eqb, ltb}
 use lib.ListN.{getD, replicate}
-use Rattle.syntax.specs.Grammar.{Grammar, done, _>>=_, _>>_, one, nth, take, flag, note, refuseIf, when, readIf, for, each, fill}
+use Rattle.syntax.specs.Grammar.{Grammar, announced, done, _>>=_, _>>_, one, nth, take, flag, note, refuseIf, when, readIf, for, each, fill}
 use Rattle.syntax.specs.Names as Name
-use Rattle.blocks.specs.declared.Coupling.{Coupling}
-use Rattle.blocks.specs.Slots.{subBands, rangeEmpty, coupled}
+use Rattle.syntax.specs.Refusals.{notAnnounced, badCouplingRange, tooFewCoupled}
+use Rattle.slots.specs.declared.Coupling.{Coupling}
+use Rattle.slots.specs.Slots.{subBands, rangeEmpty, coupled}
 
 unfoldable pub howMany : List Bool → ℕ
 howMany [] = 0
@@ -40,16 +41,15 @@ newCoupling blk acmod nfchans = do
   phsflginu ← readIf (eqb acmod 2) false (flag (one blk Name.phsflginu))
   cplbegf ← take (one blk Name.cplbegf) 4
   cplendf ← take (one blk Name.cplendf) 4
-  refuseIf (rangeEmpty cplbegf cplendf) 9
+  refuseIf (rangeEmpty cplbegf cplendf) badCouplingRange
   ncplbnd ← couplingBands blk (subBands cplbegf cplendf)
-  refuseIf (ltb (howMany chincpl) 2) 10
+  refuseIf (ltb (howMany chincpl) 2) tooFewCoupled
   done (record { cplinu = true; chincpl = chincpl; phsflginu = phsflginu; cplbegf = cplbegf; cplendf = cplendf; ncplbnd = ncplbnd })
 
 -- cplstre (4.4.3.7)
 unfoldable pub couplingStrategy : (blk acmod nfchans : ℕ) → Coupling → Grammar Coupling
 couplingStrategy blk acmod nfchans old = do
-  cplstre ← flag (one blk Name.cplstre)
-  refuseIf (eqb blk 0 && not cplstre) 8
+  cplstre ← announced blk Name.cplstre notAnnounced
   readIf cplstre old do
     cplinu ← flag (one blk Name.cplinu)
     readIf cplinu (uncoupled old) (newCoupling blk acmod nfchans)
@@ -87,6 +87,5 @@ rematrixBands c = cond (not (c .cplinu) || ltb 2 (c .cplbegf)) 4 (cond (ltb 0 (c
 
 unfoldable pub rematrixing : (blk acmod : ℕ) → Coupling → Grammar (Unit {0})
 rematrixing blk acmod c = when (eqb acmod 2) do
-  rematstr ← flag (one blk Name.rematstr)
-  refuseIf (eqb blk 0 && not rematstr) 8
+  rematstr ← announced blk Name.rematstr notAnnounced
   when rematstr (each (rematrixBands c) (λ rbnd. note (nth blk Name.rematflg rbnd) 1))

@@ -1,8 +1,8 @@
--- What bounds the values that are carried from block to block. Contracts cite it, so that the code's indexes and sums are in range; the definition
--- does without.
+-- What bounds the values that are carried from block to block. No part of the definition: contracts cite it, so that the code's indexes and
+-- sums are in range.
 use Prim.Native.Nat.{_≤_}
-use Rattle.blocks.specs.declared.Coupling.{Coupling}
-use Rattle.blocks.specs.Sound.{Entries}
+use Rattle.slots.specs.declared.Coupling.{Coupling}
+use Rattle.slots.specs.Sound.{Entries}
 use Rattle.channels.specs.declared.Bandwidths.{Bandwidths}
 
 -- no more coupling bands than sub-bands

@@ -6,9 +6,10 @@ use lib.Dec.{ltb}
 use lib.ListN.{getD, set, replicate}
 use Rattle.syntax.specs.Grammar.{Grammar, done, _>>=_, _>>_, one, nth, take, refuseIf, readIf, for, fill}
 use Rattle.syntax.specs.Names as Name
-use Rattle.blocks.specs.declared.Coupling.{Coupling}
-use Rattle.blocks.specs.declared.Strategies.{Strategies}
-use Rattle.blocks.specs.Slots.{coupled, firstCoupled, pastChannel, isNew}
+use Rattle.syntax.specs.Refusals.{badBandwidth, noBandwidth}
+use Rattle.slots.specs.declared.Coupling.{Coupling}
+use Rattle.slots.specs.declared.Strategies.{Strategies}
+use Rattle.slots.specs.Slots.{coupled, firstCoupled, pastChannel, isNew}
 use Rattle.channels.specs.declared.Bandwidths.{Bandwidths}
 
 unfoldable pub channelStrategies : (blk nfchans : ℕ) → Grammar (List ℕ)
@@ -25,7 +26,7 @@ exponentStrategies blk nfchans cplinu lfeon = do
 unfoldable pub bandwidth : (blk : ℕ) → Coupling → (chexpstr : List ℕ) (ch : ℕ) → Bandwidths → Grammar Bandwidths
 bandwidth blk c chexpstr ch w = readIf (isNew (getD chexpstr ch 0) && not (coupled c ch)) w do
   chbwcod ← take (nth blk Name.chbwcod ch) 6
-  refuseIf (ltb 60 chbwcod) 11
+  refuseIf (ltb 60 chbwcod) badBandwidth
   done (record { sent = set (w .sent) ch true; chbwcod = set (w .chbwcod) ch chbwcod })
 
 unfoldable pub bandwidths : (blk nfchans : ℕ) → Coupling → (chexpstr : List ℕ) → Bandwidths → Grammar Bandwidths
@@ -34,7 +35,7 @@ bandwidths blk nfchans c chexpstr old = for 0 nfchans old (bandwidth blk c chexp
 -- the first bin past a channel
 unfoldable pub channelEnd : Coupling → Bandwidths → (ch : ℕ) → Grammar ℕ
 channelEnd c w ch = readIf (not (coupled c ch)) (firstCoupled (c .cplbegf)) do
-  refuseIf (not (getD (w .sent) ch false)) 12
+  refuseIf (not (getD (w .sent) ch false)) noBandwidth
   done (pastChannel (getD (w .chbwcod) ch 0))
 
 unfoldable pub channelEnds : (nfchans : ℕ) → Coupling → Bandwidths → Grammar (List ℕ)

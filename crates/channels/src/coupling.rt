@@ -1,41 +1,38 @@
-// The coupling strategy and coordinates of a block, and its rematrixing (4.3.3).
-use blocks::Coupling;
+// The coupling strategy of a block (4.3.3): which channels are coupled, in which range and in how many bands.
+use crate::ChannelFlags;
+use slots::Coupling;
 use syntax::Cursor;
-use syntax::Flagged;
-use syntax::NONE;
-use syntax::elements::and_not;
+use syntax::cursors::refuse_if;
+use syntax::elements::announced;
 use syntax::elements::flag_if;
-use syntax::elements::flags;
+use syntax::items::nth;
+use syntax::items::one;
 use syntax::names::*;
+use syntax::readers::flag;
+use syntax::readers::take;
+use syntax::refusals::BAD_COUPLING_RANGE;
+use syntax::refusals::NOT_ANNOUNCED;
+use syntax::refusals::TOO_FEW_COUPLED;
 ghost use mathlib.Core.Path.{_≡_};
-ghost use mathlib.Core.Bool.{false, _&&_, _||_};
 ghost use Prim.Native.Nat.{_<_, _≤_};
-ghost use lib.ListN.{replicate};
-ghost use Rattle.syntax.specs.Grammar as syntax;
 ghost use Rattle.syntax.specs.Reads.{Reads};
-ghost use Rattle.blocks.specs.Slots.{subBands};
-ghost use Rattle.blocks.specs.Sound.{SoundCoupling};
+ghost use Rattle.slots.specs.Slots.{subBands};
+ghost use Rattle.slots.specs.Sound.{SoundCoupling};
 ghost use Rattle.channels.specs.Coupling as grammar;
 ghost use Rattle.channels.specs.Sound.{SoundBands};
 
-// A flag for each channel, and where reading stands then.
-pub struct ChannelsRead {
-    pub set: [bool; 5],
-    pub cursor: Cursor,
-}
-
-fn coupled_channels(s: &[u8], rows: &mut [i32], c: Cursor, blk: u8, nfchans: u8) -> ChannelsRead
+fn coupled_channels(s: &[u8], rows: &mut [i32], c: Cursor, blk: u8, nfchans: u8) -> ChannelFlags
     requires { ⌜ nfchans ≤ 5 ⌝ }
     ensures { λ r. ⌜ Reads (grammar.coupledChannels blk nfchans) (now (s .entry)) c (now (rows .entry)) (r .set) (r .cursor) (now (rows .exit)) ⌝ }
 {
     let mut set = [false; 5];
     let mut cursor = c;
     for ch in 0..nfchans {
-        let chincpl = syntax::flag_nth(s, rows, cursor, blk, CHINCPL, ch);
+        let chincpl = flag(s, rows, cursor, nth(blk, CHINCPL, ch));
         set[ch as usize] = chincpl.set;
         cursor = chincpl.cursor;
     }
-    ChannelsRead { set, cursor }
+    ChannelFlags { set, cursor }
 }
 
 fn how_many(set: [bool; 5]) -> u8
@@ -77,7 +74,7 @@ fn coupling_bands(s: &[u8], rows: &mut [i32], c: Cursor, blk: u8, subbands: usiz
     let mut bands = subbands;
     let mut cursor = c;
     for bnd in 1..subbands {
-        let cplbndstrc = syntax::flag_nth(s, rows, cursor, blk, CPLBNDSTRC, bnd as u8);
+        let cplbndstrc = flag(s, rows, cursor, nth(blk, CPLBNDSTRC, bnd as u8));
         if cplbndstrc.set {
             bands -= 1;
         }
@@ -106,15 +103,15 @@ fn new_coupling(
     ensures { λ r. ⌜ SoundBands (r .coupling) ⌝ }
 {
     let channels = coupled_channels(s, rows, c, blk, nfchans);
-    let phsflginu = flag_if(s, rows, channels.cursor, acmod == 2, blk, PHSFLGINU);
-    let cplbegf = syntax::take_nth(s, rows, phsflginu.cursor, blk, CPLBEGF, NONE, 4);
-    let cplendf = syntax::take_nth(s, rows, cplbegf.cursor, blk, CPLENDF, NONE, 4);
+    let phsflginu = flag_if(s, rows, channels.cursor, acmod == 2, one(blk, PHSFLGINU));
+    let cplbegf = take(s, rows, phsflginu.cursor, one(blk, CPLBEGF), 4);
+    let cplendf = take(s, rows, cplbegf.cursor, one(blk, CPLENDF), 4);
     let first = cplbegf.value as usize;
     let last = cplendf.value as usize;
-    let ranged = syntax::refuse_if(cplendf.cursor, last + 2 < first, 9);
+    let ranged = refuse_if(cplendf.cursor, last + 2 < first, BAD_COUPLING_RANGE);
     let ncplbnd = coupling_bands(s, rows, ranged, blk, sub_bands(first, last));
     let chincpl = channels.set;
-    let cursor = syntax::refuse_if(ncplbnd.cursor, how_many(chincpl) < 2, 10);
+    let cursor = refuse_if(ncplbnd.cursor, how_many(chincpl) < 2, TOO_FEW_COUPLED);
     CouplingRead {
         coupling: Coupling {
             cplinu: true,
@@ -154,10 +151,10 @@ pub fn coupling_strategy(
     ensures { λ r. ⌜ SoundCoupling (r .coupling) ⌝ }
     ensures { λ r. ⌜ SoundBands (r .coupling) ⌝ }
 {
-    let cplstre = syntax::flag_nth(s, rows, c, blk, CPLSTRE, NONE);
-    let cursor = syntax::refuse_if(cplstre.cursor, and_not(blk == 0, cplstre.set), 8);
+    let cplstre = announced(s, rows, c, blk, CPLSTRE, NOT_ANNOUNCED);
+    let cursor = cplstre.cursor;
     if cplstre.set {
-        let cplinu = syntax::flag_nth(s, rows, cursor, blk, CPLINU, NONE);
+        let cplinu = flag(s, rows, cursor, one(blk, CPLINU));
         if cplinu.set {
             new_coupling(s, rows, cplinu.cursor, blk, acmod, nfchans)
         } else {
@@ -170,146 +167,5 @@ pub fn coupling_strategy(
             coupling: old,
             cursor,
         }
-    }
-}
-
-// ---- coordinates
-
-fn coordinates(s: &[u8], rows: &mut [i32], c: Cursor, blk: u8, ch: u8, ncplbnd: usize) -> Cursor
-    ensures { λ r. ⌜ Reads (syntax.each ncplbnd (grammar.coordinate blk ch)) (now (s .entry)) c (now (rows .entry)) tt r (now (rows .exit)) ⌝ }
-{
-    let mut cursor = c;
-    for _bnd in 0..ncplbnd {
-        let cplcoexp = syntax::note_nth(s, rows, cursor, blk, CPLCOEXP, ch, 4);
-        cursor = syntax::note_nth(s, rows, cplcoexp, blk, CPLCOMANT, ch, 4);
-    }
-    cursor
-}
-
-// Whether a channel sent coordinates.
-fn channel_coordinates(
-    s: &[u8],
-    rows: &mut [i32],
-    c: Cursor,
-    blk: u8,
-    coupling: Coupling,
-    ch: u8,
-) -> Flagged
-    requires { ⌜ ch < 5 ⌝ }
-    ensures { λ r. ⌜ Reads (grammar.channelCoordinates blk coupling ch) (now (s .entry)) c (now (rows .entry)) (r .set) (r .cursor) (now (rows .exit)) ⌝ }
-{
-    if coupling.chincpl[ch as usize] {
-        let cplcoe = syntax::flag_nth(s, rows, c, blk, CPLCOE, ch);
-        if cplcoe.set {
-            let mstrcplco = syntax::note_nth(s, rows, cplcoe.cursor, blk, MSTRCPLCO, ch, 2);
-            let cursor = coordinates(s, rows, mstrcplco, blk, ch, coupling.ncplbnd);
-            Flagged { set: true, cursor }
-        } else {
-            cplcoe
-        }
-    } else {
-        Flagged {
-            set: false,
-            cursor: c,
-        }
-    }
-}
-
-fn sent_coordinates(
-    s: &[u8],
-    rows: &mut [i32],
-    c: Cursor,
-    blk: u8,
-    nfchans: u8,
-    coupling: Coupling,
-) -> ChannelsRead
-    requires { ⌜ nfchans ≤ 5 ⌝ }
-    ensures { λ r. ⌜ Reads (syntax.fill nfchans (replicate 5 false) (grammar.channelCoordinates blk coupling)) (now (s .entry)) c (now (rows .entry)) (r .set) (r .cursor) (now (rows .exit)) ⌝ }
-{
-    let mut set = [false; 5];
-    let mut cursor = c;
-    for ch in 0..nfchans {
-        let sent = channel_coordinates(s, rows, cursor, blk, coupling, ch);
-        set[ch as usize] = sent.set;
-        cursor = sent.cursor;
-    }
-    ChannelsRead { set, cursor }
-}
-
-// Phase flags follow where they are in use and one of the two channels sent coordinates.
-fn phases_follow(phsflginu: bool, left: bool, right: bool) -> bool
-    ensures { λ r. ⌜ r ≡ (phsflginu && (left || right)) ⌝ }
-{
-    phsflginu && (left || right)
-}
-
-// Which channels sent coordinates: none where there is no coupling.
-pub fn coupling_coordinates(
-    s: &[u8],
-    rows: &mut [i32],
-    c: Cursor,
-    blk: u8,
-    nfchans: u8,
-    coupling: Coupling,
-) -> ChannelsRead
-    requires { ⌜ nfchans ≤ 5 ⌝ }
-    requires { ⌜ SoundBands coupling ⌝ }
-    ensures { λ r. ⌜ Reads (grammar.couplingCoordinates blk nfchans coupling) (now (s .entry)) c (now (rows .entry)) (r .set) (r .cursor) (now (rows .exit)) ⌝ }
-{
-    if coupling.cplinu {
-        let sent = sent_coordinates(s, rows, c, blk, nfchans, coupling);
-        let set = sent.set;
-        if phases_follow(coupling.phsflginu, set[0], set[1]) {
-            let cursor = flags(s, rows, sent.cursor, blk, PHSFLG, coupling.ncplbnd as u8);
-            ChannelsRead { set, cursor }
-        } else {
-            sent
-        }
-    } else {
-        ChannelsRead {
-            set: [false; 5],
-            cursor: c,
-        }
-    }
-}
-
-// ---- rematrixing, Table 4.10
-
-fn rematrix_bands(c: Coupling) -> u8
-    ensures { λ r. ⌜ r ≡ grammar.rematrixBands c ⌝ }
-{
-    if c.cplinu {
-        if 2 < c.cplbegf {
-            4
-        } else if 0 < c.cplbegf {
-            3
-        } else {
-            2
-        }
-    } else {
-        4
-    }
-}
-
-pub fn rematrixing(
-    s: &[u8],
-    rows: &mut [i32],
-    c: Cursor,
-    blk: u8,
-    acmod: u8,
-    coupling: Coupling,
-) -> Cursor
-    ensures { λ r. ⌜ Reads (grammar.rematrixing blk acmod coupling) (now (s .entry)) c (now (rows .entry)) tt r (now (rows .exit)) ⌝ }
-{
-    if acmod == 2 {
-        let rematstr = syntax::flag_nth(s, rows, c, blk, REMATSTR, NONE);
-        let cursor = syntax::refuse_if(rematstr.cursor, and_not(blk == 0, rematstr.set), 8);
-        if rematstr.set {
-            flags(s, rows, cursor, blk, REMATFLG, rematrix_bands(coupling))
-        } else {
-            cursor
-        }
-    } else {
-        c
     }
 }

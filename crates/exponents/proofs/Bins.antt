@@ -7,7 +7,7 @@ use mathlib.Core.Bool.{Bool, true, false, cond, _||_, true≢false}
 use mathlib.Core.Logic.{_⊎_, inl, inr}
 use lib.Dec.{eqb, ltb, lit≤}
 use borrow.Author.Tests.{ltb-false}
-use Rattle.blocks.specs.Slots.{CPL, LFE}
+use Rattle.slots.specs.Slots.{CPL, LFE}
 use Rattle.exponents.specs.Exponents.{binsEach, groupCount, firstGrouped}
 
 pub one-bin : (strategy : ℕ) → strategy < 2 → binsEach strategy ≡ 1

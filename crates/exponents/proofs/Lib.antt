@@ -1,5 +1,6 @@
-pub mod Forgotten
+pub mod Kept
 pub mod Bins
 pub mod AtHand
 pub mod Three
+pub mod Judged
 pub mod Examples

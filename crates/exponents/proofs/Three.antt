@@ -1,11 +1,14 @@
--- Three exponents in one number, a byte for each with 64 added: what a group makes of the exponent before it. Assumes nothing.
-use mathlib.Core.Bool.{false}
-use mathlib.Core.Path.{_≡_, _∙_}
+-- The three steps of a group, refused as one; and three exponents in one number, a byte for each with 64 added. Assumes nothing.
+use mathlib.Core.Bool.{Bool, true, false, _||_, true≢false}
+use mathlib.Core.Path.{_≡_, refl, sym, _∙_}
 use Prim.Native.Nat.{ℕ, _+_, _-_, _*_, _/_, _%_, _<_, _≤_}
 use native.Mathlib.Omega.{arith}
+use lib.Dec.{ltb}
 use borrow.Author.Tests.{le-ltb}
-use Rattle.exponents.specs.AtHand.{Inside, Near, NearThree, ThreeInside}
-use Rattle.exponents.proofs.AtHand.{out}
+use Rattle.syntax.specs.Refusals.{badExponent}
+use Rattle.syntax.specs.Grammar.{Grammar, done, _>>=_, _>>_, refuseIf}
+use Rattle.exponents.specs.Bytes.{Inside, Near, NearThree, ThreeInside}
+use Rattle.exponents.specs.Exponents.{step}
 use Rattle.exponents.proofs.Bins.{inside}
 
 -- ---- the bytes of a number
@@ -36,6 +39,9 @@ low-bits byte e is h = rw is (omega arith)
 abbrev Fits : ℕ → Type 0
 Fits raised = (2 ≤ raised) × (raised ≤ 26)
 
+abbrev out : ℕ → Bool
+out raised = ltb raised 2 || ltb 26 raised
+
 not-out : (raised : ℕ) → Fits raised → out raised ≡ false
 not-out raised h = rw (le-ltb raised 2 (h .0), le-ltb 26 raised (h .1)) (λ i. false)
 
@@ -48,6 +54,28 @@ module _ (last d e f : ℕ) where
 
   abbrev z : ℕ
   z = y - 2 + f
+
+  -- none of the three is outside
+  abbrev NoneOut : Type 0
+  NoneOut = (out x ≡ false) × (out y ≡ false) × (out z ≡ false)
+
+  abbrev steps : Grammar (ℕ × ℕ × ℕ)
+  steps = step last d >>= λ a. step a e >>= λ b. step b f >>= λ c. done (a, b, c)
+
+  -- a test that fails where none of the three is outside refuses what the steps refuse
+  pub as-one : (bad : Bool) → (bad ≡ false → NoneOut) → (NoneOut → bad ≡ false) → steps ≡ (refuseIf bad badExponent >> done (x - 2, y - 2, z - 2))
+  unfolding step _>>=_
+  as-one bad none all = go (out x) (out y) (out z) refl refl refl bad refl
+    where
+      go : (p q r : Bool) → out x ≡ p → out y ≡ q → out z ≡ r → (b : Bool) → bad ≡ b → steps ≡ (refuseIf b badExponent >> done (x - 2, y - 2, z - 2))
+      go true q r i j k true h = rw i
+      go false true r i j k true h = rw (i, j)
+      go false false true i j k true h = rw (i, j, k)
+      go false false false i j k true h = absurd (true≢false (sym h ∙ all (i, j, k)))
+      go false false false i j k false h = rw (i, j, k)
+      go true q r i j k false h = absurd (true≢false (sym i ∙ none h .0))
+      go false true r i j k false h = absurd (true≢false (sym j ∙ none h .1))
+      go false false true i j k false h = absurd (true≢false (sym k ∙ none h .2))
 
   -- the three as the bytes have them
   abbrev Sums : (ℕ → Type 0) → Type 0
@@ -63,8 +91,8 @@ module _ (last d e f : ℕ) where
   pub record Held (three : ℕ) : Type 0 where
     pub word : three < 4294967296
     pub near : NearThree three
-    pub good : out x ≡ false → out y ≡ false → out z ≡ false → ThreeInside three
-    pub each : ThreeInside three → (out x ≡ false) × (out y ≡ false) × (out z ≡ false)
+    pub good : NoneOut → ThreeInside three
+    pub each : ThreeInside three → NoneOut
     pub are : ThreeInside three → (three % 32 ≡ x - 2) × (three / 256 % 32 ≡ y - 2) × (three / 65536 % 32 ≡ z - 2)
     pub low : ThreeInside three → (three % 32 < 25) × ((three / 256 % 32 < 25) × (three / 65536 % 32 < 25))
 
@@ -107,7 +135,7 @@ module _ (last d e f : ℕ) where
     held = record {
       word = small;
       near = record { each = rw (byte-1, byte-2, byte-3) near-sums };
-      good = λ xs ys zs. record { each = rw (byte-1, byte-2, byte-3) (sums (inside x xs, inside y ys, inside z zs)) };
+      good = λ h. record { each = rw (byte-1, byte-2, byte-3) (sums (inside x (h .0), inside y (h .1), inside z (h .2))) };
       each = λ h. (not-out x (fits h .0), not-out y (fits h .1), not-out z (fits h .2));
       are = λ h. (x-is h, y-is h, z-is h);
       low = all-low;

@@ -1,42 +1,18 @@
--- What the quick way through the groups of a set asks, so that no group needs a test of its own. No part of the definition.
+-- At hand: frame, input and room hold the groups that are left, so that none of them needs a test of its own. No part of the definition.
 use mathlib.Core.List.{List}
-use mathlib.Core.Path.{_≡_}
-use Prim.Native.Nat.{ℕ, _+_, _*_, _/_, _%_, _<_, _≤_}
+use Prim.Native.Nat.{ℕ, _+_, _*_, _/_, _≤_}
 use lib.IntN.{ℤ}
-use lib.ListN.{length, getD}
+use lib.ListN.{length}
 use Rattle.syntax.specs.declared.Cursor.{Cursor}
+use Rattle.syntax.specs.Numbers.{rowWidth}
+use Rattle.syntax.specs.Reads.{Goes, afterRow}
 
--- what each group adds to the exponent before it: its differences, each 2 too high, added up, and 64; a byte for each of three exponents
-pub record Steps (table : List ℕ) : Type 0 where
-  pub each : (group : ℕ) → group < 125 → let x = group / 25 in let y = x + group % 25 / 5 in let z = y + group % 5 in
-      getD table group 0 ≡ 62 + x + 256 * (60 + y) + 65536 * (58 + z)
+pub record AtHand (c : Cursor) (groups : ℕ) (s : List ℕ) (rows : List ℤ) : Type 0 where
+  pub goes : Goes c
+  pub frame : c .at + 7 * groups ≤ c .limit
+  pub bytes : (c .at + 7 * groups) / 8 + 2 ≤ length s
+  pub room : c .count + groups ≤ length rows / rowWidth
 
--- no byte of three has the bit of 32
-pub record Unmarked (three : ℕ) : Type 0 where
-  pub first : three / 32 % 2 ≡ 0
-  pub second : three / 8192 % 2 ≡ 0
-  pub third : three / 2097152 % 2 ≡ 0
-
--- an exponent with 64 added: from 0 to 24; not so far outside that the bit of 32 would not tell it
-abbrev pub Inside : ℕ → Type 0
-Inside byte = (64 ≤ byte) × (byte ≤ 88)
-
-abbrev pub Near : ℕ → Type 0
-Near byte = (32 ≤ byte) × (byte < 121)
-
-abbrev pub Each : (ℕ → Type 0) → ℕ → Type 0
-Each P three = P (three % 256) × P (three / 256 % 256) × P (three / 65536)
-
-pub record ThreeInside (three : ℕ) : Type 0 where
-  pub each : Each Inside three
-
-pub record NearThree (three : ℕ) : Type 0 where
-  pub each : Each Near three
-
--- frame, input and room hold so many groups
-pub record AtHand (c : Cursor) (count : ℕ) (s : List ℕ) (rows : List ℤ) : Type 0 where
-  pub goes : c .stop ≡ 0
-  pub frame : c .at + 7 * count ≤ c .limit
-  pub short : c .at + 7 * count < 65536
-  pub bytes : (c .at + 7 * count) / 8 + 2 ≤ length s
-  pub room : c .count + count ≤ length rows / 8
+-- the cursor past one of them
+abbrev pub past : Cursor → Cursor
+past c = afterRow (c .at + 7) c

@@ -7,12 +7,14 @@ use lib.IntN.{ℤ, pos}
 use lib.ListN.{getD, set, replicate}
 use lib.Seq.{sets}
 use Rattle.syntax.specs.declared.Item.{Item}
+use Rattle.syntax.specs.declared.Refusal.{Refusal}
 use Rattle.syntax.specs.Grammar.{Grammar, done, _>>=_, _>>_, nth, take, note, refuseIf, when, readIf, for}
 use Rattle.syntax.specs.Names as Name
-use Rattle.blocks.specs.Slots.{CPL, LFE, firstCoupled, pastCoupled, isNew}
-use Rattle.blocks.specs.declared.Coupling.{Coupling}
-use Rattle.blocks.specs.declared.Cover.{Cover}
-use Rattle.blocks.specs.declared.Strategies.{Strategies}
+use Rattle.syntax.specs.Refusals.{noCouplingExponents, noChannelExponents, noLfeExponents, badGroup, badExponent}
+use Rattle.slots.specs.Slots.{CPL, LFE, firstCoupled, pastCoupled, isNew}
+use Rattle.slots.specs.declared.Coupling.{Coupling}
+use Rattle.slots.specs.declared.Cover.{Cover}
+use Rattle.slots.specs.declared.Strategies.{Strategies}
 
 -- ---- one set, 6.1.3: a first exponent, and then differences, three to a group, each of them for 1, 2 or 4 bins
 
@@ -31,8 +33,18 @@ differences group = (group / 25, group % 25 / 5, group % 5)
 
 unfoldable pub step : (before difference : ℕ) → Grammar ℕ
 step before difference = do
-  refuseIf (ltb (before + difference) 2 || ltb 26 (before + difference)) 17
+  refuseIf (ltb (before + difference) 2 || ltb 26 (before + difference)) badExponent
   done (before + difference - 2)
+
+-- the three exponents of a group, from the exponent before it
+unfoldable pub unpack : (last group : ℕ) → Grammar (ℕ × ℕ × ℕ)
+unpack last group = do
+  refuseIf (ltb 124 group) badGroup
+  let (x, y, z) = differences group
+  a ← step last x
+  b ← step a y
+  c ← step b z
+  done (a, b, c)
 
 -- the last exponent that was made, and the row of all
 pub record Unpacked : Type 0 where
@@ -47,11 +59,8 @@ spread bins a b c = replicate bins (pos a) ++ replicate bins (pos b) ++ replicat
 unfoldable pub group : Item → (bins first n : ℕ) → Unpacked → Grammar Unpacked
 group item bins first n u = do
   grouped ← take item 7
-  refuseIf (ltb 124 grouped) 16
-  let (x, y, z) = differences grouped
-  a ← step (u .last) x
-  b ← step a y
-  c ← step b z
+  three ← unpack (u .last) grouped
+  let (a, b, c) = three
   done (record { last = c; row = sets (u .row) (first + n * (3 * bins)) (spread bins a b c) })
 
 -- the names of the first exponent and of the groups, and their index
@@ -94,7 +103,7 @@ covers c slot start end = getD (c .sent) slot false && (eqb (getD (c .start) slo
 abbrev pub covering : (slot start end : ℕ) → Cover → Cover
 covering slot start end c = record { sent = set (c .sent) slot true; start = set (c .start) slot start; end = set (c .end) slot end }
 
-unfoldable pub slotExponents : (blk refusal slot strategy start end : ℕ) → Exponents → Grammar Exponents
+unfoldable pub slotExponents : (blk : ℕ) → Refusal → (slot strategy start end : ℕ) → Exponents → Grammar Exponents
 slotExponents blk refusal slot strategy start end e = do
   refuseIf (not (isNew strategy) && not (covers (e .cover) slot start end)) refusal
   readIf (isNew strategy) e do
@@ -103,12 +112,12 @@ slotExponents blk refusal slot strategy start end e = do
 
 unfoldable pub channelExponents : (blk : ℕ) (chexpstr ends : List ℕ) (ch : ℕ) → Exponents → Grammar Exponents
 channelExponents blk chexpstr ends ch e = do
-  e ← slotExponents blk 14 ch (getD chexpstr ch 0) 0 (getD ends ch 0) e
+  e ← slotExponents blk noChannelExponents ch (getD chexpstr ch 0) 0 (getD ends ch 0) e
   when (isNew (getD chexpstr ch 0)) (note (nth blk Name.gainrng ch) 2)
   done e
 
 unfoldable pub exponents : (blk nfchans : ℕ) (lfeon : Bool) → Coupling → Strategies → (ends : List ℕ) → Exponents → Grammar Exponents
 exponents blk nfchans lfeon c s ends old = do
-  e ← readIf (c .cplinu) old (slotExponents blk 13 CPL (s .cplexpstr) (firstCoupled (c .cplbegf)) (pastCoupled (c .cplendf)) old)
+  e ← readIf (c .cplinu) old (slotExponents blk noCouplingExponents CPL (s .cplexpstr) (firstCoupled (c .cplbegf)) (pastCoupled (c .cplendf)) old)
   e ← for 0 nfchans e (channelExponents blk (s .chexpstr) ends)
-  readIf lfeon e (slotExponents blk 15 LFE (s .lfeexpstr) 0 7 e)
+  readIf lfeon e (slotExponents blk noLfeExponents LFE (s .lfeexpstr) 0 7 e)

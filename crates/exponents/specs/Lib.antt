@@ -1,3 +1,4 @@
 pub mod Exponents
+pub mod Bytes
 pub mod AtHand
 pub mod Sound

@@ -1,4 +1,4 @@
--- Each of the 24 numbers is one of the answer's, so what the answer promises the numbers promise. Assumes nothing.
+-- Each of the numbers is one of the answer's, so what the answer promises the numbers promise. Assumes nothing.
 use mathlib.Core.List.{List}
 use mathlib.Core.Path.{_≡_, refl, ap, sym, subst, _∙_}
 use Prim.Native.Nat.{ℕ}
@@ -9,21 +9,21 @@ use Rattle.ac3.specs.Frame.{summaryOf}
 use Rattle.ac3.specs.Promise.{Call, Promised, listed}
 use Rattle.ac3.specs.Within.{Within}
 use Rattle.ac3.specs.declared.Answer.{Answer}
-use Rattle.ferrysprig.specs.Numbers.{summaryNumbers, answerNumbers}
+use Rattle.ferrysprig.specs.Numbers.{inOrder, summaryNumbers, answerNumbers}
 use Rattle.ferrysprig.specs.Promise.{PromisedNumbers}
 
 same : {m n : ℕ} → pos m ≡ pos n → m ≡ n
 same e = cc
 
 of-answer : (c : Call) (a : Answer) (after : List ℤ) → Promised c a after → Within c a after → PromisedNumbers c (answerNumbers a) after
-unfolding answerNumbers summaryNumbers
+unfolding answerNumbers inOrder summaryNumbers
 of-answer c a after kept within =
     record {
       long = refl;
       numbered = (a .refusal, refl, kept .numbered);
       sound = λ e. kept .sound (same e);
       complete = λ ok. ap pos (kept .complete ok);
-      which = λ n e. ap pos (kept .which n e);
+      which = λ x e. ap pos (kept .which x e);
       written = kept .written;
       counted = ap pos (kept .counted);
       bit = ap pos (kept .bit);

@@ -1,4 +1,4 @@
--- An answer as 24 numbers: the refusal, the rows written, the bit, and the summary's 21 in the order of docs/FORMAT.md. Yes is 1.
+-- An answer as numbers: the refusal, the rows written, the bit, and the summary's 21 in the order of docs/FORMAT.md. Yes is 1.
 use mathlib.Core.Bool.{Bool, cond}
 use mathlib.Core.List.{List, [], _∷_, _++_, map}
 use Prim.Native.Nat.{ℕ}
@@ -7,20 +7,30 @@ use lib.ListN.{getD}
 use Rattle.ac3.specs.declared.Answer.{Answer}
 use Rattle.ac3.specs.declared.Summary.{Summary}
 
-abbrev pub flag : Bool → ℤ
-flag b = cond b (pos 1) (pos 0)
+-- so many are the numbers of an answer
+abbrev pub answerWidth : ℕ
+answerWidth = 24
+
+abbrev pub flag : Bool → ℕ
+flag b = cond b 1 0
 
 -- the six entries of an array
-abbrev pub six : List ℕ → List ℤ
-six l = map (λ i. pos (getD l i 0)) (0 ∷ 1 ∷ 2 ∷ 3 ∷ 4 ∷ 5 ∷ [])
+abbrev pub six : List ℕ → List ℕ
+six l = map (λ i. getD l i 0) (0 ∷ 1 ∷ 2 ∷ 3 ∷ 4 ∷ 5 ∷ [])
+
+abbrev pub summaryInOrder : Summary → List ℕ
+summaryInOrder s =
+    s .rows ∷ s .header .bytes ∷ s .end ∷ s .header .bsid ∷ s .header .acmod ∷ flag (s .header .lfeon) ∷ s .header .fscod ∷ s .tally .coupled
+    ∷ six (s .tally .starts) ++ six (s .tally .mantissas) ++ flag (s .tally .coordinates) ∷ []
+
+unfoldable pub inOrder : Answer → List ℕ
+inOrder a = a .refusal ∷ a .rows ∷ a .bit ∷ summaryInOrder (a .summary)
 
 unfoldable pub summaryNumbers : Summary → List ℤ
-summaryNumbers s =
-    pos (s .rows) ∷ pos (s .header .bytes) ∷ pos (s .end) ∷ pos (s .header .bsid) ∷ pos (s .header .acmod) ∷ flag (s .header .lfeon)
-    ∷ pos (s .header .fscod) ∷ pos (s .tally .coupled) ∷ six (s .tally .starts) ++ six (s .tally .mantissas) ++ flag (s .tally .coordinates) ∷ []
+summaryNumbers s = map pos (summaryInOrder s)
 
 unfoldable pub answerNumbers : Answer → List ℤ
-answerNumbers a = pos (a .refusal) ∷ pos (a .rows) ∷ pos (a .bit) ∷ summaryNumbers (a .summary)
+answerNumbers a = map pos (inOrder a)
 
 -- the numbers of an answer, and the room after it
 abbrev pub told : Answer × List ℤ → List ℤ × List ℤ

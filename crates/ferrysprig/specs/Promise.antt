@@ -1,17 +1,19 @@
--- What the parser promises (`ac3/specs/Promise` and `Within`), for a caller who holds only the 24 numbers and the room: each line again,
+-- What the parser promises (`ac3/specs/Promise` and `Within`), for a caller who holds only the numbers and the room: each line again,
 -- over these.
 use mathlib.Core.List.{List, _++_}
 use mathlib.Core.Path.{_≡_}
 use Prim.Native.Nat.{ℕ, _*_, _≤_}
 use lib.IntN.{ℤ, pos}
 use lib.ListN.{length, getD, drop}
+use Rattle.syntax.specs.Numbers.{rowWidth}
 use Rattle.syntax.specs.Place.{flatten}
+use Rattle.syntax.specs.declared.Refusal.{Refusal}
 use Rattle.syntax.specs.Rows.{Tiles}
 use Rattle.syntax.specs.Run.{refused, parse}
 use Rattle.ac3.specs.Frame.{syncframe, summaryOf, noSummary}
 use Rattle.ac3.specs.Promise.{Call, input, roomFor, listed, bitOf, Reaches}
 use Rattle.ac3.specs.RowBound.{mostRows}
-use Rattle.ferrysprig.specs.Numbers.{summaryNumbers}
+use Rattle.ferrysprig.specs.Numbers.{answerWidth, summaryNumbers}
 
 -- of the numbers: the refusal, the rows written, the bit, and the frame's bytes
 abbrev pub refusalIn : List ℤ → ℤ
@@ -27,15 +29,15 @@ abbrev pub bytesIn : List ℤ → ℤ
 bytesIn ns = getD ns 4 (pos 0)
 
 pub record PromisedNumbers (c : Call) (ns after : List ℤ) : Type 0 where
-  pub long : length ns ≡ 24
+  pub long : length ns ≡ answerWidth
   -- accepted, or one of twenty refusals
   pub numbered : (n : ℕ) × (refusalIn ns ≡ pos n) × (n ≤ 20)
   -- accepted exactly when the definition reaches audio_end within frame and room, and else refused with its number
   pub sound : refusalIn ns ≡ pos 0 → Reaches c
   pub complete : Reaches c → refusalIn ns ≡ pos 0
-  pub which : (n : ℕ) → parse syncframe (input c) (roomFor c) .end ≡ refused n → refusalIn ns ≡ pos n
+  pub which : (x : Refusal) → parse syncframe (input c) (roomFor c) .end ≡ refused x → refusalIn ns ≡ pos (x .number)
   -- the rows are the definition's list, in front, and the rest of the room is as it was
-  pub written : after ≡ flatten (listed c) ++ drop (length (listed c) * 8) (c .room)
+  pub written : after ≡ flatten (listed c) ++ drop (length (listed c) * rowWidth) (c .room)
   pub counted : rowsIn ns ≡ pos (length (listed c))
   pub bit : bitIn ns ≡ pos (bitOf c)
   -- the rows of an accepted frame lie end to end from bit 0 to the bit

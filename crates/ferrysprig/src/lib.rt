@@ -2,40 +2,30 @@
 use ac3::Answer;
 ghost use mathlib.Core.Path.{_≡_};
 ghost use Prim.Native.Nat.{_≤_};
-ghost use lib.IntN.{pos};
 ghost use Rattle.bits.specs.Bits.{rangeEq};
 ghost use Rattle.ac3.specs.Frame as frame;
 ghost use Rattle.ac3.specs.Promise.{call};
 ghost use Rattle.ac3.specs.RowBound.{mostRows};
 ghost use Rattle.burst.specs.Answers as bursts;
-ghost use Rattle.ferrysprig.specs.Bursts.{burstNumbers, burstTold};
-ghost use Rattle.ferrysprig.specs.Numbers.{flag, answerNumbers, told};
+ghost use Rattle.ferrysprig.specs.Bursts.{burstInOrder, burstNumbers, burstTold};
+ghost use Rattle.ferrysprig.specs.Numbers.{flag, inOrder, answerNumbers, told};
 ghost use Rattle.ferrysprig.specs.Promise.{PromisedNumbers};
 
-// No frame has so many rows that 32 bits would not hold their count.
-fn row_count(n: usize) -> i32
-    requires { ⌜ n ≤ mostRows ⌝ }
-    ensures { λ r. ⌜ r ≡ pos n ⌝ }
-{
-    n as i32
-}
+// The numbers of an answer, and of one about a burst.
+pub const ANSWER: usize = 24;
 
-fn wide(n: u16) -> i32
-    ensures { λ r. ⌜ r ≡ pos n ⌝ }
-{
-    n as i32
-}
+pub const BURST_ANSWER: usize = 3;
 
-fn flag(b: bool) -> i32
+fn flag(b: bool) -> u16
     ensures { λ r. ⌜ r ≡ flag b ⌝ }
 {
     if b { 1 } else { 0 }
 }
 
-// The 24 numbers of an answer.
-fn numbers(a: Answer) -> [i32; 24]
+// The numbers of an answer in their order. None is large: no frame has more than 4,067 rows.
+fn in_order(a: Answer) -> [u16; ANSWER]
     requires { ⌜ (a .rows ≤ mostRows) × (a .summary .rows ≤ mostRows) ⌝ }
-    ensures { λ r. ⌜ r ≡ answerNumbers a ⌝ }
+    ensures { λ r. ⌜ r ≡ inOrder a ⌝ }
 {
     let summary = a.summary;
     let header = summary.header;
@@ -43,31 +33,42 @@ fn numbers(a: Answer) -> [i32; 24]
     let starts = tally.starts;
     let mantissas = tally.mantissas;
     [
-        wide(a.refusal as u16),
-        row_count(a.rows),
-        wide(a.bit),
-        row_count(summary.rows),
-        wide(header.bytes),
-        wide(summary.end),
-        wide(header.bsid as u16),
-        wide(header.acmod as u16),
+        a.refusal as u16,
+        a.rows as u16,
+        a.bit,
+        summary.rows as u16,
+        header.bytes,
+        summary.end,
+        header.bsid as u16,
+        header.acmod as u16,
         flag(header.lfeon),
-        wide(header.fscod as u16),
-        wide(tally.coupled as u16),
-        wide(starts[0]),
-        wide(starts[1]),
-        wide(starts[2]),
-        wide(starts[3]),
-        wide(starts[4]),
-        wide(starts[5]),
-        wide(mantissas[0]),
-        wide(mantissas[1]),
-        wide(mantissas[2]),
-        wide(mantissas[3]),
-        wide(mantissas[4]),
-        wide(mantissas[5]),
+        header.fscod as u16,
+        tally.coupled as u16,
+        starts[0],
+        starts[1],
+        starts[2],
+        starts[3],
+        starts[4],
+        starts[5],
+        mantissas[0],
+        mantissas[1],
+        mantissas[2],
+        mantissas[3],
+        mantissas[4],
+        mantissas[5],
         flag(tally.coordinates),
     ]
+}
+
+// The same as the caller reads them.
+fn numbers(a: Answer) -> [i32; ANSWER]
+    requires { ⌜ (a .rows ≤ mostRows) × (a .summary .rows ≤ mostRows) ⌝ }
+    ensures { λ r. ⌜ r ≡ answerNumbers a ⌝ }
+{
+    let small = in_order(a);
+    let mut out = [0i32; ANSWER];
+    writer::numbers(&small, &mut out);
+    out
 }
 
 // Parses the frame at a place of a capture into the lent rows, and writes the answer's numbers.
@@ -76,7 +77,7 @@ pub extern "C" fn ferrysprig_parse(
     capture: &[u8],
     place: usize,
     rows: &mut [i32],
-    answer: &mut [i32; 24],
+    answer: &mut [i32; ANSWER],
 )
     ensures { λ _. ⌜ (now (answer .exit), now (rows .exit)) ≡ told (frame.answer (now (capture .entry)) place (now (rows .entry))) ⌝ }
     ensures { λ _. ⌜ PromisedNumbers (call (now (capture .entry)) place (now (rows .entry))) (now (answer .exit)) (now (rows .exit)) ⌝ }
@@ -92,12 +93,22 @@ pub extern "C" fn ferrysprig_range_eq(x: &[u8], a: usize, y: &[u8], b: usize, n:
     bits::range_eq(x, a, y, b, n)
 }
 
-// The three numbers of an answer about a burst.
-fn burst_numbers(a: burst::Answer) -> [i32; 3]
+// The numbers of an answer about a burst in their order.
+fn burst_in_order(a: burst::Answer) -> [u16; BURST_ANSWER]
+    requires { ⌜ a .rows ≤ mostRows ⌝ }
+    ensures { λ r. ⌜ r ≡ burstInOrder a ⌝ }
+{
+    [a.refusal as u16, a.rows as u16, a.bytes]
+}
+
+fn burst_numbers(a: burst::Answer) -> [i32; BURST_ANSWER]
     requires { ⌜ a .rows ≤ mostRows ⌝ }
     ensures { λ r. ⌜ r ≡ burstNumbers a ⌝ }
 {
-    [wide(a.refusal as u16), row_count(a.rows), wide(a.bytes)]
+    let small = burst_in_order(a);
+    let mut out = [0i32; BURST_ANSWER];
+    writer::numbers(&small, &mut out);
+    out
 }
 
 // Writes the frame at a place of a capture as one IEC 61937 burst of 6,144 bytes, and the answer's numbers.
@@ -107,7 +118,7 @@ pub extern "C" fn ferrysprig_burst_write(
     place: usize,
     rows: &mut [i32],
     out: &mut [u8],
-    answer: &mut [i32; 3],
+    answer: &mut [i32; BURST_ANSWER],
 )
     ensures { λ _. ⌜ (now (answer .exit), (now (rows .exit), now (out .exit))) ≡ burstTold (bursts.written (now (capture .entry)) place (now (rows .entry)) (now (out .entry))) ⌝ }
 {
@@ -120,7 +131,7 @@ pub extern "C" fn ferrysprig_burst_read(
     burst: &[u8],
     rows: &mut [i32],
     out: &mut [u8],
-    answer: &mut [i32; 3],
+    answer: &mut [i32; BURST_ANSWER],
 )
     ensures { λ _. ⌜ (now (answer .exit), (now (rows .exit), now (out .exit))) ≡ burstTold (bursts.read (now (burst .entry)) (now (rows .entry)) (now (out .entry))) ⌝ }
 {

@@ -4,3 +4,4 @@ pub mod Inverse
 pub mod LocalRun
 pub mod Parsed
 pub mod Passed
+pub mod Written

@@ -6,20 +6,21 @@ use Rattle.tables.specs.Tables.{frameBytes}
 use Rattle.syntax.specs.declared.Role.the-variants.{Sync, Crc1, FrameSize, Dialnorm, ComprExists, Compr, Addbsi}
 use Rattle.syntax.specs.Grammar.{Grammar, done, _>>=_, _>>_, plain, roled, take, flag, note, pass, framed, refuseIf, when, each}
 use Rattle.syntax.specs.Names as Name
+use Rattle.syntax.specs.Refusals.{tooShort, notSync, noFrameSize, cutShort, badBsid}
 use Rattle.header.specs.declared.Header.{Header}
 
 -- fscod (4.4.1.3), and the bytes of the frame, which it gives with frmsizecod (4.4.1.4)
 unfoldable pub syncinfo : Grammar (ℕ × ℕ)
 syncinfo = do
-  framed 1 6
+  framed tooShort 6
   syncword ← take (roled Sync Name.syncword) 16
-  refuseIf (not (eqb syncword 0x0B77)) 2
+  refuseIf (not (eqb syncword 0x0B77)) notSync
   note (roled Crc1 Name.crc1) 16
   fscod ← take (roled FrameSize Name.fscod) 2
   frmsizecod ← take (roled FrameSize Name.frmsizecod) 6
   let bytes = frameBytes fscod frmsizecod
-  refuseIf (eqb bytes 0) 3
-  framed 4 bytes
+  refuseIf (eqb bytes 0) noFrameSize
+  framed cutShort bytes
   done (fscod, bytes)
 
 -- one programme: the second one's names stand eight further on
@@ -77,7 +78,7 @@ additionalInfo = do
 unfoldable pub bsi : (fscod bytes : ℕ) → Grammar Header
 bsi fscod bytes = do
   bsid ← take (plain Name.bsid) 5
-  refuseIf (ltb 8 bsid) 5
+  refuseIf (ltb 8 bsid) badBsid
   note (plain Name.bsmod) 3
   acmod ← take (plain Name.acmod) 3
   when (eqb (acmod % 2) 1 && not (eqb acmod 1)) (note (plain Name.cmixlev) 2)

@@ -1,4 +1,4 @@
--- What bounds a header's values. Contracts cite it, so that tables are looked up in range; the definition does without.
+-- What bounds a header's values. No part of the definition: contracts cite it, so that tables are looked up in range.
 use Prim.Native.Nat.{_<_}
 use Rattle.header.specs.declared.Header.{Header}
 

@@ -1,21 +1,30 @@
 // Lists one frame: reads it from standard input (at most 3,840 bytes, later ones are not read), parses it with room for 2,048 rows, and
-// prints each row's eight numbers and a last line, `audio ROWS BYTES AUDIO_END` or `refused NUMBER ROWS BIT`.
+// prints each row's numbers and a last line, `audio ROWS BYTES AUDIO_END` or `refused NUMBER ROWS BIT`.
 use libc::STDIN_FILENO;
 use libc::STDOUT_FILENO;
+use syntax::ROW;
 ghost use mathlib.Core.Path.{_≡_};
 ghost use Prim.Native.Nat.{_<_};
 ghost use lib.ListN.{length};
+ghost use Rattle.list.specs.Lent.{rowsLent, numbersLent};
 
-// Puts a byte at a place of the line, and answers the place after it. (A line has room for eight numbers of any size.)
-fn put(line: &mut [u8; 176], at: usize, b: u8) -> usize {
-    if at < 176 {
+// The rows that are lent, the numbers of these, and the bytes of a line: twenty digits, a sign and a space for each number of a row.
+const ROWS: usize = 2048;
+
+const NUMBERS: usize = ROWS * ROW;
+
+const LINE: usize = ROW * 22;
+
+// Puts a byte at a place of the line, and answers the place after it. (A line has room for a row of numbers of any size.)
+fn put(line: &mut [u8; LINE], at: usize, b: u8) -> usize {
+    if at < LINE {
         line[at] = b;
         return at + 1;
     }
     at
 }
 
-fn put_text(line: &mut [u8; 176], at: usize, text: &[u8]) -> usize {
+fn put_text(line: &mut [u8; LINE], at: usize, text: &[u8]) -> usize {
     let mut next = at;
     for i in 0..text.len() {
         next = put(line, next, text[i]);
@@ -23,62 +32,62 @@ fn put_text(line: &mut [u8; 176], at: usize, text: &[u8]) -> usize {
     next
 }
 
-fn put_count(line: &mut [u8; 176], at: usize, n: usize) -> usize {
+fn put_count(line: &mut [u8; LINE], at: usize, n: usize) -> usize {
     let mut digits = [0u8; 20];
     let k = io::decimal(n as u64, &mut digits);
     put_text(line, at, &digits[..k])
 }
 
 // A number of a row: none is below -1.
-fn put_number(line: &mut [u8; 176], at: usize, n: i32) -> usize {
+fn put_number(line: &mut [u8; LINE], at: usize, n: i32) -> usize {
     if n < 0 {
         return put_text(line, at, b"-1");
     }
     put_count(line, at, signed::clamp(n, 2147483647))
 }
 
-// The eight numbers of a row, separated by one space.
-fn put_row(line: &mut [u8; 176], rows: &[i32; 16384], row: usize) -> usize
-    requires { ⌜ row < 2048 ⌝ }
+// The numbers of a row, separated by one space.
+fn put_row(line: &mut [u8; LINE], rows: &[i32; NUMBERS], row: usize) -> usize
+    requires { ⌜ row < rowsLent ⌝ }
 {
-    let mut at = put_number(line, 0, rows[row * 8]);
-    for i in 1..8 {
+    let mut at = put_number(line, 0, rows[row * ROW]);
+    for i in 1..ROW {
         let next = put(line, at, b' ');
-        at = put_number(line, next, rows[row * 8 + i]);
+        at = put_number(line, next, rows[row * ROW + i]);
     }
     at
 }
 
 // Writes a line as far as a place.
-fn print(line: [u8; 176], end: usize) {
-    if end <= 176 {
+fn print(line: [u8; LINE], end: usize) {
+    if end <= LINE {
         io::write_all(STDOUT_FILENO, &line[..end]);
     }
 }
 
-fn print_row(rows: &[i32; 16384], row: usize)
-    requires { ⌜ row < 2048 ⌝ }
+fn print_row(rows: &[i32; NUMBERS], row: usize)
+    requires { ⌜ row < rowsLent ⌝ }
 {
-    let mut line = [0u8; 176];
+    let mut line = [0u8; LINE];
     let numbers = put_row(&mut line, rows, row);
     let end = put(&mut line, numbers, b'\n');
     print(line, end);
 }
 
-fn print_rows(rows: &[i32; 16384], count: usize) {
-    for row in 0..signed::least(count, 2048) {
+fn print_rows(rows: &[i32; NUMBERS], count: usize) {
+    for row in 0..naturals::least(count, ROWS) {
         print_row(rows, row);
     }
 }
 
-fn put_next(line: &mut [u8; 176], at: usize, n: usize) -> usize {
+fn put_next(line: &mut [u8; LINE], at: usize, n: usize) -> usize {
     let next = put(line, at, b' ');
     put_count(line, next, n)
 }
 
 // A word and three numbers.
 fn print_last(word: &[u8], a: usize, b: usize, c: usize) {
-    let mut line = [0u8; 176];
+    let mut line = [0u8; LINE];
     let said = put_text(&mut line, 0, word);
     let first = put_next(&mut line, said, a);
     let second = put_next(&mut line, first, b);
@@ -94,10 +103,10 @@ fn no_bytes() -> [u8; 3840]
     [0u8; 3840]
 }
 
-fn no_rows() -> [i32; 16384]
-    ensures { λ r. ⌜ 16384 ≡ length r ⌝ }
+fn no_rows() -> [i32; NUMBERS]
+    ensures { λ r. ⌜ numbersLent ≡ length r ⌝ }
 {
-    [0i32; 16384]
+    [0i32; NUMBERS]
 }
 
 fn main() {

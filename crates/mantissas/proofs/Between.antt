@@ -11,7 +11,8 @@ use lib.ListN.{length, getD, set, replicate}
 use lib.Seq.{getD-set-same, getD-set-other}
 use borrow.Author.Tests.{eqb-true, eqb-false}
 use Rattle.alloc.specs.Allocation.{from}
-use Rattle.mantissas.specs.Counts.{between}
+use Rattle.alloc.proofs.Noted.{from-same}
+use Rattle.mantissas.specs.Sound.{between}
 
 module _ {A : Type 0} (f : ℕ → A) {i last : ℕ} where
   pub from-none : last ≤ i → from i (last - i) f ≡ []
@@ -36,20 +37,10 @@ module _ {A : Type 0} where
   same-entry (a ∷ l) zero d e h = refl
   same-entry (a ∷ l) (suc i) d e h = same-entry l i d e (le-of-suc-le-suc h)
 
-  pub from-same : {f g : ℕ → A} (n first : ℕ) → ((k : ℕ) → first ≤ k → k < first + n → f k ≡ g k) → from first n f ≡ from first n g
-  unfolding from
-  from-same zero first h = refl
-  from-same (suc n) first h = ap₂ _∷_ (h first (omega arith) (omega arith)) (from-same n (suc first) (λ k p q. h k (omega arith) (omega arith)))
-
   from-last : (f : ℕ → A) (n first : ℕ) → from first (suc n) f ≡ from first n f ++ (f (first + n) ∷ [])
   unfolding from
   from-last f zero first = rw (add-zero first)
   from-last f (suc n) first = let e : first + suc n ≡ suc first + n = omega arith in ap (λ t. f first ∷ t) (rw e (from-last f n (suc first)))
-
-  pub from-length : (f : ℕ → A) (n first : ℕ) → length (from first n f) ≡ n
-  unfolding from
-  from-length f zero first = refl
-  from-length f (suc n) first = ap suc (from-length f n (suc first))
 
   pub from-constant : (a : A) (n first : ℕ) → from first n (λ _. a) ≡ replicate n a
   unfolding from
@@ -61,7 +52,7 @@ module _ {A : Type 0} where
   between-store d l n v h =
       rw (add-one n, sub-zero (suc n), sub-zero n)
       (from-last (λ k. getD (set l n v) k d) n 0
-      ∙ ap₂ (λ t x. t ++ (x ∷ [])) (from-same n 0 (λ k p q. getD-set-other l n k v d (λ e. omega arith))) (ap (λ k. getD (set l n v) k d) (zero-add n) ∙ getD-set-same l n v d h))
+      ∙ ap₂ (λ t x. t ++ (x ∷ [])) (from-same _ _ n 0 (λ k p q. getD-set-other l n k v d (λ e. omega arith))) (ap (λ k. getD (set l n v) k d) (zero-add n) ∙ getD-set-same l n v d h))
 
 -- what holds before a place, and there, holds before the next
 pub one-further : {P : ℕ → Type 0} {i : ℕ} → ((k : ℕ) → k < i → P k) → P i → (k : ℕ) → k < i + 1 → P k

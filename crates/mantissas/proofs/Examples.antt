@@ -4,8 +4,10 @@ use mathlib.Core.List.{[], _∷_}
 use mathlib.Core.Path.{_≡_, refl}
 use Rattle.tables.specs.Tables.{bapBits}
 use Rattle.syntax.specs.Run.{sum}
-use Rattle.blocks.specs.Slots.{CPL, LFE}
-use Rattle.blocks.specs.declared.Coupling.{Coupling}
+use Rattle.slots.specs.Slots.{CPL, LFE}
+use Rattle.slots.specs.declared.Coupling.{Coupling}
+use Rattle.alloc.specs.Allocation.{from}
+use Rattle.mantissas.specs.BySlot.{bySlot, bitsIn}
 use Rattle.mantissas.specs.Parts.{part, channelParts, parts}
 use Rattle.mantissas.specs.Mantissas.{widths, noneOpen}
 
@@ -23,3 +25,9 @@ slots-in-order = refl
 one-group : sum (widths noneOpen (1 ∷ 0 ∷ 1 ∷ 3 ∷ 1 ∷ [])) ≡ 8
 unfolding sum widths bapBits
 one-group = refl
+
+-- two channels of three bins each; the group of ones and the first pair of fours are begun in channel 0, the second pair in
+-- channel 1
+shared : bySlot (part 0 0 3 ∷ part 1 0 3 ∷ []) (widths noneOpen (1 ∷ 1 ∷ 4 ∷ 1 ∷ 4 ∷ 4 ∷ [])) ≡ 12 ∷ 7 ∷ 0 ∷ 0 ∷ 0 ∷ 0 ∷ 0 ∷ []
+unfolding bySlot bitsIn from sum widths
+shared = refl

@@ -4,8 +4,8 @@ use mathlib.Core.List.{List, _∷_}
 use mathlib.Core.Path.{_≡_, refl}
 use Prim.Native.Nat.{ℕ, suc, _+_}
 use lib.ListN.{getD}
-use Rattle.blocks.specs.Slots.{CPL, firstCoupled, pastCoupled, coupled}
-use Rattle.blocks.specs.declared.Coupling.{Coupling}
+use Rattle.slots.specs.Slots.{CPL, firstCoupled, pastCoupled, coupled}
+use Rattle.slots.specs.declared.Coupling.{Coupling}
 use Rattle.mantissas.specs.Parts.{part, channelParts}
 
 and-true : (b : Bool) → (b && true) ≡ b

@@ -1,22 +1,24 @@
 -- What is kept of a slot: where it was counted from the same, it is what would be counted. Assumes nothing.
-use mathlib.Core.Bool.{Bool, true, false}
+use mathlib.Core.Bool.{Bool, true, false, true≢false, cond}
 use mathlib.Core.List.{List, []}
-use mathlib.Core.Logic.{_⊎_, inl, inr}
+use mathlib.Core.Logic.{_⊎_, inl, inr, ⊎-elim}
 use mathlib.Core.Path.{_≡_, refl, ap, sym, _∙_}
-use Prim.Native.Nat.{ℕ, zero, suc, _<_, zero-le}
+use Prim.Native.Nat.{ℕ, zero, suc, _+_, _≤_, _<_, zero-le}
 use native.Mathlib.Nat.{not-suc-le-zero, le-of-suc-le-suc}
 use native.Mathlib.Omega.{arith}
 use lib.Dec.{eqb}
 use lib.IntN.{ℤ}
-use lib.ListN.{length-set, getD, set, replicate}
+use lib.ListN.{length, length-set, getD, set, replicate}
 use lib.Seq.{getD-set-same, getD-set-other}
 use borrow.Author.Tests.{eqb-true, eqb-false}
 use Rattle.alloc.proofs.Laws.{allocation-none, allocation-unsegmented}
-use Rattle.blocks.specs.Forgotten.{nothing, Forgets}
-use Rattle.blocks.specs.declared.AllocState.{AllocState}
+use Rattle.slots.specs.Slots.{isNew}
+use Rattle.slots.specs.declared.AllocState.{AllocState}
+use Rattle.slots.specs.declared.Strategies.{Strategies}
 use Rattle.mantissas.specs.Counts.{noCounts, countedAll}
-use Rattle.mantissas.specs.Kept.{memoOf, parametersBy, pointersBy, countsIn, SameBasis, KeptOf, Kept}
+use Rattle.mantissas.specs.Kept.{memoOf, parametersBy, pointersBy, countsIn, SameBasis, KeptOf, Kept, nothing, KeptUnlessNew}
 use Rattle.mantissas.specs.Mantissas.{deltasOf, parametersOf, pointers}
+use Rattle.slots.specs.Reused.{strategyOf, Keeps, ReusedBy}
 use Rattle.mantissas.specs.declared.Counts.{Counts}
 use Rattle.mantissas.specs.declared.Part.{Part}
 
@@ -77,12 +79,45 @@ kept-none fscod exps = record { seven = refl; each = λ slot h. rw (filled-entry
     filled-entry (suc n) zero d e h = refl
     filled-entry (suc n) (suc k) d e h = filled-entry n k d e (le-of-suc-le-suc h)
 
--- what is kept stays true of exponents that are as they were, and where they are new nothing is kept
-pub kept-on : {fscod : ℕ} {memos memos' : List (List ℕ)} {exps exps' : List (List ℤ)} → Kept fscod memos exps → Forgets memos exps memos' exps' → Kept fscod memos' exps'
-kept-on {fscod = fscod} {memos = memos} {memos' = memos'} {exps = exps} {exps' = exps'} all f =
-    record { seven = f .long ∙ all .seven; each = λ slot h. go slot h (f .each slot (rw (all .seven) h)) }
-  where
-    go : (slot : ℕ) → slot < 7 → ((getD memos' slot [] ≡ getD memos slot []) × (getD exps' slot [] ≡ getD exps slot [])) ⊎ (getD memos' slot [] ≡ nothing)
-        → KeptOf fscod slot (getD memos' slot []) (getD exps' slot [])
-    go slot h (inl e) = rw (e .0, e .1) (all .each slot h)
-    go slot h (inr e) = rw e (kept-nothing fscod slot (getD exps' slot []))
+-- exponents that are as they were leave what is kept of them true
+pub kept-unless-new : {fscod : ℕ} {s : Strategies} {memos : List (List ℕ)} {before after : List (List ℤ)}
+    → Kept fscod memos before → Keeps (ReusedBy s) before after → KeptUnlessNew fscod s memos after
+kept-unless-new all same = record { seven = all .seven; each = λ slot h reused. rw (same .each slot reused) (all .each slot h) }
+
+-- ---- what is new is forgotten, slot by slot
+
+-- the slots before one are done: what is kept of them is true; of the others it is true where the block has no new exponents
+pub record KeptBefore (fscod done : ℕ) (s : Strategies) (memos : List (List ℕ)) (exps : List (List ℤ)) : Type 0 where
+  pub seven : length memos ≡ 7
+  pub each : (slot : ℕ) → slot < 7 → (slot < done) ⊎ ReusedBy s slot → KeptOf fscod slot (getD memos slot []) (getD exps slot [])
+
+module _ {fscod : ℕ} {s : Strategies} {memos : List (List ℕ)} {exps : List (List ℤ)} where
+  pub none-done : KeptUnlessNew fscod s memos exps → KeptBefore fscod 0 s memos exps
+  none-done h = record { seven = h .seven; each = λ slot p. ⊎-elim (λ q. absurd (omega arith)) (h .each slot p) }
+
+  pub all-done : {done : ℕ} → 7 ≤ done → KeptBefore fscod done s memos exps → Kept fscod memos exps
+  all-done g h = record { seven = h .seven; each = λ slot p. h .each slot p (inl (omega arith)) }
+
+  module _ {done : ℕ} (h : KeptBefore fscod done s memos exps) (here : done < 7) where
+    -- what holds of the slots before one, and there, holds before the next
+    one-done : (memo : List ℕ) → KeptOf fscod done memo (getD exps done []) → KeptBefore fscod (done + 1) s (set memos done memo) exps
+    one-done memo k = record { seven = length-set memos done memo ∙ h .seven; each = λ slot p q. go slot p q (eqb slot done) refl }
+      where
+        go : (slot : ℕ) → slot < 7 → (slot < done + 1) ⊎ ReusedBy s slot → (b : Bool) → eqb slot done ≡ b
+            → KeptOf fscod slot (getD (set memos done memo) slot []) (getD exps slot [])
+        go slot p q true t = rw (eqb-true slot done t, getD-set-same memos done memo [] (rw (h .seven) here)) k
+        go slot p q false t =
+            let other : slot ≡ done → ⊥ = eqb-false slot done t in
+            rw (getD-set-other memos done slot memo [] other) (h .each slot p (⊎-elim (λ l. inl (omega arith)) inr q))
+
+    pub slot-done : (new : Bool) → new ≡ isNew (strategyOf s done)
+        → KeptBefore fscod (done + 1) s (set memos done (cond new nothing (getD memos done []))) exps
+    slot-done true e = one-done nothing (kept-nothing fscod done (getD exps done []))
+    slot-done false e = one-done (getD memos done []) (h .each done here (inr (reused (strategyOf s done) (sym e))))
+      where
+        reused : (strategy : ℕ) → isNew strategy ≡ false → strategy ≡ 0
+        reused strategy e = go (eqb strategy 0) refl
+          where
+            go : (b : Bool) → eqb strategy 0 ≡ b → strategy ≡ 0
+            go true t = eqb-true strategy 0 t
+            go false t = absurd (true≢false (rw t at e))

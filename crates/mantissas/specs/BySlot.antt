@@ -2,7 +2,7 @@
 -- piece is a slot's, so that the bits of a group count to the slot of its first member. `proofs/BySlot.antt` proves `BitsBySlot`.
 use mathlib.Core.Bool.{Bool, false, _||_, cond}
 use mathlib.Core.List.{List, [], _∷_}
-use mathlib.Core.Path.{_≡_, refl}
+use mathlib.Core.Path.{_≡_}
 use Prim.Native.Nat.{ℕ, _+_, _-_, _≤_}
 use lib.Dec.{eqb}
 use lib.IntN.{ℤ}
@@ -12,11 +12,11 @@ use Rattle.syntax.specs.declared.Role.the-variants.{Mantissas}
 use Rattle.syntax.specs.Grammar.{oneRoled}
 use Rattle.syntax.specs.Names as Name
 use Rattle.syntax.specs.Run.{spanning, Spot, reached, sum, row, run}
-use Rattle.blocks.specs.declared.AllocState.{AllocState}
-use Rattle.blocks.specs.declared.Coupling.{Coupling}
+use Rattle.slots.specs.declared.AllocState.{AllocState}
+use Rattle.slots.specs.declared.Coupling.{Coupling}
 use Rattle.mantissas.specs.Counts.{noCounts, countedAll, plus, widthOf, openAfter}
 use Rattle.mantissas.specs.Mantissas.{noneOpen, widths, silent, partPointers, allPointers, mantissas}
-use Rattle.mantissas.specs.Parts.{part, parts}
+use Rattle.mantissas.specs.Parts.{parts}
 use Rattle.mantissas.specs.declared.Counts.{Counts}
 use Rattle.mantissas.specs.declared.Part.{Part}
 
@@ -46,8 +46,8 @@ used slot (p ∷ ps) = eqb (p .slot) slot || used slot ps
 
 -- ---- without a walk: a slot takes the bits by which the total grows
 
-abbrev pub ownCounts : (fscod : ℕ) → AllocState → List (List ℤ) → (quiet : Bool) → Part → Counts
-ownCounts fscod st exps quiet p = countedAll noCounts (partPointers fscod st exps quiet p)
+abbrev pub ownCounts : (fscod : ℕ) → AllocState → List (List ℤ) → (isSilent : Bool) → Part → Counts
+ownCounts fscod st exps isSilent p = countedAll noCounts (partPointers fscod st exps isSilent p)
 
 unfoldable pub grownIn : (slot : ℕ) → (own : Part → Counts) → (before : Counts) → List Part → ℕ
 grownIn slot own before [] = 0
@@ -69,11 +69,5 @@ pub record BitsBySlot : Type 0 where
   -- what mantissas take after others follows from the counts of both
   pub grows : (before : Counts) (baps : List ℕ) → sum (widths (openAfter before) baps) ≡ widthOf (plus before (countedAll noCounts baps)) - widthOf before
   -- so a slot's bits follow from the counts of each slot by itself
-  pub counted : (slot fscod : ℕ) (st : AllocState) (exps : List (List ℤ)) (quiet : Bool) (ps : List Part)
-      → bitsIn slot ps (widths noneOpen (allPointers fscod st exps quiet ps)) ≡ grownIn slot (ownCounts fscod st exps quiet) noCounts ps
-
--- ---- an example: two channels of three bins each; the group of ones and the first pair of fours are begun in channel 0, the second pair in
--- channel 1
-shared : bySlot (part 0 0 3 ∷ part 1 0 3 ∷ []) (widths noneOpen (1 ∷ 1 ∷ 4 ∷ 1 ∷ 4 ∷ 4 ∷ [])) ≡ 12 ∷ 7 ∷ 0 ∷ 0 ∷ 0 ∷ 0 ∷ 0 ∷ []
-unfolding bySlot bitsIn from sum widths
-shared = refl
+  pub counted : (slot fscod : ℕ) (st : AllocState) (exps : List (List ℤ)) (isSilent : Bool) (ps : List Part)
+      → bitsIn slot ps (widths noneOpen (allPointers fscod st exps isSilent ps)) ≡ grownIn slot (ownCounts fscod st exps isSilent) noCounts ps

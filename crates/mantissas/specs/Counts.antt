@@ -1,48 +1,12 @@
--- What the code of the mantissas promises on its way to `mantissas`. Mantissas are counted, and from the counts follow the bits that
--- all of them take: a mantissa takes as many as the total grows by. `proofs/Counting.antt` proves that these are the widths of 6.3.5.
+-- Mantissas counted, and the bits that follow from the counts: a mantissa takes as many as the total grows by. No part of the definition: contracts
+-- cite it, and `proofs/Counting.antt` proves that these bits are the widths of 6.3.5.
 use mathlib.Core.Bool.{cond}
 use mathlib.Core.List.{List, [], _∷_}
-use Prim.Native.Nat.{ℕ, _+_, _-_, _*_, _/_, _%_, _<_, _≤_}
+use Prim.Native.Nat.{ℕ, _+_, _*_, _/_, _%_, _≤_}
 use lib.Dec.{eqb}
-use lib.IntN.{ℤ}
-use lib.ListN.{getD}
 use Rattle.tables.specs.Tables.{bapBits}
-use Rattle.alloc.specs.Allocation.{at, from}
-use Rattle.alloc.specs.Steps.{Address, bapAt}
 use Rattle.mantissas.specs.Mantissas.{Open}
-use Rattle.mantissas.specs.Parts.{part}
 use Rattle.mantissas.specs.declared.Counts.{Counts}
-use Rattle.mantissas.specs.declared.Part.{Part}
-use Rattle.mantissas.specs.declared.Parts.{Parts}
-
--- ---- the entries of an array from one place up to another
-
-abbrev pub between : {A : Type 0} → A → List A → (first last : ℕ) → List A
-between d l first last = from first (last - first) (λ k. getD l k d)
-
--- the same of the pointers at the addresses in an array
-abbrev pub pointersAt : List ℤ → (first last : ℕ) → List ℕ
-pointersAt addresses first last = from first (last - first) (bapAt addresses)
-
-abbrev pub Addresses : List ℤ → (first last : ℕ) → Type 0
-Addresses addresses first last = (bin : ℕ) → first ≤ bin → bin < last → Address (at addresses bin)
-
-abbrev pub noPart : Part
-noPart = part 0 0 0
-
-abbrev pub listed : Parts → List Part
-listed ps = between noPart (ps .list) 0 (ps .count)
-
-pub record SoundPart (p : Part) : Type 0 where
-  pub slot : p .slot < 7
-  pub start : p .start ≤ 253
-  pub end : p .end ≤ 253
-
-pub record SoundParts (ps : Parts) : Type 0 where
-  pub count : ps .count ≤ 7
-  pub each : (i : ℕ) → SoundPart (getD (ps .list) i noPart)
-
--- ---- counting
 
 abbrev pub noCounts : Counts
 noCounts = record { bits = 0; ones = 0; twos = 0; fours = 0 }

@@ -1,16 +1,18 @@
 -- What was counted of a slot is kept with what it was counted from, besides its exponents: those in force. So it need not be counted again while
--- all that is the same. No part of the definition: `Kept` only says that what is kept is true.
+-- all that is the same; where a block has new exponents it is forgotten. No part of the definition: `Kept` only says that what is kept is true.
 use mathlib.Core.List.{List, [], _∷_}
 use mathlib.Core.Path.{_≡_}
 use Prim.Native.Nat.{ℕ, _<_}
 use lib.IntN.{ℤ}
-use lib.ListN.{length, getD}
+use lib.ListN.{length, getD, replicate}
 use Rattle.tables.specs.Tables.{slowDecay, fastDecay, slowGain, fastGain, knee, floor}
 use Rattle.alloc.specs.Allocation.{snrOffset, allocation}
 use Rattle.alloc.specs.declared.Parameters.{Parameters}
-use Rattle.blocks.specs.declared.AllocState.{AllocState}
+use Rattle.slots.specs.declared.AllocState.{AllocState}
+use Rattle.slots.specs.declared.Strategies.{Strategies}
 use Rattle.mantissas.specs.Counts.{noCounts, countedAll}
 use Rattle.mantissas.specs.Mantissas.{leakOf}
+use Rattle.slots.specs.Reused.{ReusedBy}
 use Rattle.mantissas.specs.declared.Counts.{Counts}
 use Rattle.mantissas.specs.declared.Part.{Part}
 
@@ -53,6 +55,17 @@ SameBasis kept memo = (i : ℕ) → i < 12 → getD kept i 0 ≡ getD memo i 0
 abbrev pub KeptOf : (fscod slot : ℕ) → List ℕ → List ℤ → Type 0
 KeptOf fscod slot kept row = countsIn kept ≡ countedAll noCounts (pointersBy fscod slot (λ i. getD kept i 0) row)
 
+-- seven memos, each of them true
 pub record Kept (fscod : ℕ) (memos : List (List ℕ)) (exps : List (List ℤ)) : Type 0 where
   pub seven : length memos ≡ 7
   pub each : (slot : ℕ) → slot < 7 → KeptOf fscod slot (getD memos slot []) (getD exps slot [])
+
+-- ---- a block
+
+abbrev pub nothing : List ℕ
+nothing = replicate 16 0
+
+-- seven memos, each of them true where the block has no new exponents
+pub record KeptUnlessNew (fscod : ℕ) (s : Strategies) (memos : List (List ℕ)) (exps : List (List ℤ)) : Type 0 where
+  pub seven : length memos ≡ 7
+  pub each : (slot : ℕ) → slot < 7 → ReusedBy s slot → KeptOf fscod slot (getD memos slot []) (getD exps slot [])

@@ -1,6 +1,6 @@
 -- The bit allocation of a block and its mantissas (4.3.3, 4.4.3.61 to .63, 6.2.2.1, 6.3.5): one list of bit allocation pointers, one pass. A `bap`
 -- is one such pointer.
-use mathlib.Core.Bool.{Bool, true, false, _&&_, not, cond}
+use mathlib.Core.Bool.{Bool, _&&_, not, cond}
 use mathlib.Core.List.{List, [], _∷_, _++_}
 use Prim.Native.Nat.{ℕ, _+_, _-_, _*_, _%_}
 use lib.Dec.{eqb}
@@ -13,12 +13,12 @@ use Rattle.alloc.specs.declared.Parameters.{Parameters}
 use Rattle.syntax.specs.declared.Role.the-variants.{Mantissas}
 use Rattle.syntax.specs.Grammar.{Grammar, done, _>>=_, _>>_, oneRoled, pieces, position, refuseIf}
 use Rattle.syntax.specs.Names as Name
-use Rattle.blocks.specs.Delta.{noDeltas}
-use Rattle.blocks.specs.Slots.{CPL, LFE}
-use Rattle.blocks.specs.declared.AllocState.{AllocState}
-use Rattle.blocks.specs.declared.Coupling.{Coupling}
-use Rattle.blocks.specs.declared.Deltas.{Deltas}
-use Rattle.blocks.specs.declared.Offsets.{Offsets}
+use Rattle.syntax.specs.Refusals.{noLeak}
+use Rattle.slots.specs.Slots.{CPL, LFE, noDeltas}
+use Rattle.slots.specs.declared.AllocState.{AllocState}
+use Rattle.slots.specs.declared.Coupling.{Coupling}
+use Rattle.slots.specs.declared.Deltas.{Deltas}
+use Rattle.slots.specs.declared.Offsets.{Offsets}
 use Rattle.mantissas.specs.Parts.{parts}
 use Rattle.mantissas.specs.declared.Part.{Part}
 
@@ -66,12 +66,12 @@ parametersOf fscod st p =
 unfoldable pub pointers : (fscod : ℕ) → AllocState → List (List ℤ) → Part → List ℕ
 pointers fscod st exps p = allocation (getD exps (p .slot) []) (parametersOf fscod st p)
 
-abbrev pub partPointers : (fscod : ℕ) → AllocState → List (List ℤ) → (quiet : Bool) → Part → List ℕ
-partPointers fscod st exps quiet p = cond quiet (replicate (p .end - p .start) 0) (pointers fscod st exps p)
+abbrev pub partPointers : (fscod : ℕ) → AllocState → List (List ℤ) → (isSilent : Bool) → Part → List ℕ
+partPointers fscod st exps isSilent p = cond isSilent (replicate (p .end - p .start) 0) (pointers fscod st exps p)
 
-unfoldable pub allPointers : (fscod : ℕ) → AllocState → List (List ℤ) → (quiet : Bool) → List Part → List ℕ
-allPointers fscod st exps quiet [] = []
-allPointers fscod st exps quiet (p ∷ ps) = partPointers fscod st exps quiet p ++ allPointers fscod st exps quiet ps
+unfoldable pub allPointers : (fscod : ℕ) → AllocState → List (List ℤ) → (isSilent : Bool) → List Part → List ℕ
+allPointers fscod st exps isSilent [] = []
+allPointers fscod st exps isSilent (p ∷ ps) = partPointers fscod st exps isSilent p ++ allPointers fscod st exps isSilent ps
 
 -- ---- 6.3.5: the bits that each pointer takes
 
@@ -107,14 +107,14 @@ widths g (bap ∷ baps) = bitsOf g bap ∷ widths (nowOpen g bap) baps
 -- ---- the mantissas of a block: the bit at which they begin
 
 -- coupling needs its leak, unless every pointer is 0
-abbrev pub leakMissing : (quiet cplinu sent : Bool) → Bool
-leakMissing quiet cplinu sent = not quiet && (cplinu && not sent)
+abbrev pub leakMissing : (isSilent cplinu sent : Bool) → Bool
+leakMissing isSilent cplinu sent = not isSilent && (cplinu && not sent)
 
 unfoldable pub mantissas : (blk fscod nfchans : ℕ) (lfeon : Bool) → Coupling → (ends : List ℕ) → AllocState → List (List ℤ) → Grammar ℕ
 mantissas blk fscod nfchans lfeon c ends st exps = do
   let ps = parts nfchans lfeon c ends
-  let quiet = silent (st .offsets) ps
-  refuseIf (leakMissing quiet (c .cplinu) (st .leak .sent)) 20
+  let isSilent = silent (st .offsets) ps
+  refuseIf (leakMissing isSilent (c .cplinu) (st .leak .sent)) noLeak
   start ← position
-  pieces (oneRoled blk Mantissas Name.mantissas) (widths noneOpen (allPointers fscod st exps quiet ps))
+  pieces (oneRoled blk Mantissas Name.mantissas) (widths noneOpen (allPointers fscod st exps isSilent ps))
   done start

@@ -3,8 +3,8 @@ use mathlib.Core.Bool.{Bool, _&&_, not, cond}
 use mathlib.Core.List.{List, [], _∷_, _++_}
 use Prim.Native.Nat.{ℕ, zero, suc, _+_}
 use lib.ListN.{getD}
-use Rattle.blocks.specs.Slots.{CPL, LFE, firstCoupled, pastCoupled, coupled}
-use Rattle.blocks.specs.declared.Coupling.{Coupling}
+use Rattle.slots.specs.Slots.{CPL, LFE, firstCoupled, pastCoupled, coupled}
+use Rattle.slots.specs.declared.Coupling.{Coupling}
 use Rattle.mantissas.specs.declared.Part.{Part}
 
 abbrev pub part : (slot start end : ℕ) → Part

@@ -1,10 +1,18 @@
 // Replays a list of cases with the judge's answers (judge/vectors/README.md says its layout), from standard input: each capture is parsed at
-// its place with its room, and the 24 numbers of the answer and a checksum of the whole room are held against those of the list.
+// its place with its room, and the numbers of the answer and a checksum of the whole room are held against those of the list.
+use ferrysprig::ANSWER;
 use libc::STDIN_FILENO;
 use libc::STDOUT_FILENO;
+use syntax::ROW;
 ghost use mathlib.Core.Path.{_≡_};
 ghost use Prim.Native.Nat.{_<_, _≤_, _+_, _*_};
 ghost use lib.ListN.{length};
+ghost use Rattle.replay.specs.Cases.{saidBytes, numbersLent};
+
+// What is said of an answer: four bytes to a number, and to the checksum of the room. The numbers of the largest room: 4,096 rows.
+const SAID: usize = 4 * (ANSWER + 1);
+
+const NUMBERS: usize = 4096 * ROW;
 
 fn wide(b: u8) -> u64
     ensures { λ r. ⌜ r < 256 ⌝ }
@@ -13,8 +21,8 @@ fn wide(b: u8) -> u64
 }
 
 // A number of the list: four bytes from a place on, highest first.
-fn number_at(b: &[u8; 100], at: usize) -> u64
-    requires { ⌜ at + 4 ≤ 100 ⌝ }
+fn number_at(b: &[u8; SAID], at: usize) -> u64
+    requires { ⌜ at + 4 ≤ saidBytes ⌝ }
     ensures { λ r. ⌜ r < 4294967296 ⌝ }
 {
     let first = wide(b[at]);
@@ -65,9 +73,9 @@ fn mark(room: &mut [i32]) {
     }
 }
 
-// Whether the answer's 24 numbers are those that the list says.
-fn same(answer: &[i32; 24], said: &[u8; 100]) -> bool {
-    for i in 0..24 {
+// Whether the answer's numbers are those that the list says.
+fn same(answer: &[i32; ANSWER], said: &[u8; SAID]) -> bool {
+    for i in 0..ANSWER {
         if bits_of(answer[i]) != number_at(said, i * 4) {
             return false;
         }
@@ -75,12 +83,17 @@ fn same(answer: &[i32; 24], said: &[u8; 100]) -> bool {
     true
 }
 
-// Whether a call answers as the list says.
-fn as_said(capture: &[u8], place: usize, room: &mut [i32], said: &[u8; 100]) -> bool {
+// Whether a call answers as the list says, and rows that are made of the frame's records are the same.
+fn as_said(capture: &[u8], place: usize, room: &mut [i32], said: &[u8; SAID]) -> bool {
     mark(room);
-    let mut answer = [0i32; 24];
+    let mut answer = [0i32; ANSWER];
     ferrysprig::ferrysprig_parse(capture, place, room, &mut answer);
-    if checksum(room) != number_at(said, 96) {
+    if checksum(room) != number_at(said, 4 * ANSWER) {
+        return false;
+    }
+    mark(room);
+    fields::parse_through(capture, place, room);
+    if checksum(room) != number_at(said, 4 * ANSWER) {
         return false;
     }
     same(&answer, said)
@@ -113,10 +126,10 @@ fn no_bytes() -> [u8; 8192]
     [0u8; 8192]
 }
 
-fn no_numbers() -> [i32; 32768]
-    ensures { λ r. ⌜ 32768 ≡ length r ⌝ }
+fn no_numbers() -> [i32; NUMBERS]
+    ensures { λ r. ⌜ numbersLent ≡ length r ⌝ }
 {
-    [0i32; 32768]
+    [0i32; NUMBERS]
 }
 
 // Reads one case, and answers whether the port answers as the list says. A case that is cut short does not.
@@ -125,18 +138,18 @@ fn replay() -> bool {
     let bytes = sizes.bytes;
     let numbers = sizes.numbers;
     let mut capture = no_bytes();
-    let mut said = [0u8; 100];
+    let mut said = [0u8; SAID];
     let mut room = no_numbers();
     if 8192 < bytes {
         return false;
     }
-    if 32768 < numbers {
+    if NUMBERS < numbers {
         return false;
     }
     if io::read_full(STDIN_FILENO, &mut capture[..bytes]) != bytes {
         return false;
     }
-    if io::read_full(STDIN_FILENO, &mut said) != 100 {
+    if io::read_full(STDIN_FILENO, &mut said) != SAID {
         return false;
     }
     as_said(&capture[..bytes], sizes.place, &mut room[..numbers], &said)

@@ -13,14 +13,14 @@ use lib.ListN.{length, getD, take, drop, length-append}
 use lib.Seq.{take-at, drop-at, drop-drop, getD-take, getD-drop}
 use Rattle.bits.specs.Bits.{value}
 use Rattle.syntax.specs.Grammar.{Grammar, done, refuse, field, free, span, walk, frame, here}
-use Rattle.syntax.specs.Numbers.{numbers}
+use Rattle.syntax.specs.Numbers.{rowWidth, numbers}
 use Rattle.syntax.specs.Place.{flatten}
 use Rattle.syntax.specs.Rows.{isSpan}
 use Rattle.syntax.specs.Run.{Row, Spot, Result, Check, clear, stop, unless, run, sum, beyond, within, start}
 use Rattle.ac3.specs.Frame.{syncframe}
 use Rattle.ac3.specs.Promise.{Call, input, roomFor, listed, answerTo}
 use Rattle.ac3.proofs.Promise.{promised}
-use Rattle.rows.specs.Look.{rowWidth, nameColumn, valueColumn, first, valueIn}
+use Rattle.rows.specs.Look.{nameColumn, valueColumn, first, valueIn}
 use Rattle.rows.specs.Found.{indexOf, valueOf, First, rowAt, Looked, LooksUp}
 use Rattle.rows.proofs.Look.{hit, miss, value-found, value-none}
 

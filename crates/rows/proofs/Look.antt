@@ -13,8 +13,9 @@ use lib.Seq.{getD-drop, drop-drop}
 use mir.Facts.{toZ-ofZ}
 use mir.Syntax.{w32}
 use mir.Val.{SFits, toZ, ofZ}
+use Rattle.syntax.specs.Numbers.{rowWidth}
 use Rattle.syntax.proofs.Signed.{widened}
-use Rattle.rows.specs.Look.{rowWidth, nameColumn, valueColumn, isName, leads, first, valueIn}
+use Rattle.rows.specs.Look.{nameColumn, valueColumn, isName, leads, first, valueIn}
 
 -- a test of signed numbers compares bits
 module _ {z : ℤ} where

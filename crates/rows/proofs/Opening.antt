@@ -10,6 +10,8 @@ use Rattle.bits.specs.Bits.{value}
 use Rattle.tables.specs.Tables.{frameBytes}
 use Rattle.syntax.specs.declared.Item.{Item}
 use Rattle.syntax.specs.declared.Role.the-variants.{Sync, Crc1, FrameSize}
+use Rattle.syntax.specs.declared.Refusal.{Refusal}
+use Rattle.syntax.specs.Refusals.{notSync, noFrameSize, badBsid}
 use Rattle.syntax.specs.Grammar.{Grammar, done, refuse, field, free, span, walk, frame, here, _>>=_, plain, roled, refuseIf}
 use Rattle.syntax.specs.Names as Name
 use Rattle.syntax.specs.Run.{Kind, steering, unsteering, Row, row, Spot, End, reached, refused, Result, Check, clear, stop, _after_, unless, run, rowCheck, frameCheck, beyond, within}
@@ -58,10 +60,10 @@ module _ {A B : Type 0} (Q : A → List Laid → Type 0) (P : B → List Laid �
   bound (f ∷ fs) (here k) b = λ at. bound (f ∷ fs) (k at) (b at)
 
 -- past a judgement
-past : {B : Type 0} (f : Laid) (fs : List Laid) (P : B → List Laid → Type 0) (b : Bool) (n : ℕ) (h : Unit {0} → Grammar B) → Begins (f ∷ fs) P (h tt) → Begins (f ∷ fs) P (refuseIf b n >>= h)
+past : {B : Type 0} (f : Laid) (fs : List Laid) (P : B → List Laid → Type 0) (b : Bool) (x : Refusal) (h : Unit {0} → Grammar B) → Begins (f ∷ fs) P (h tt) → Begins (f ∷ fs) P (refuseIf b x >>= h)
 unfolding _>>=_
-past f fs P true n h later = tt
-past f fs P false n h later = later
+past f fs P true x h later = tt
+past f fs P false x h later = later
 
 -- ---- what is accepted
 
@@ -112,11 +114,11 @@ fields =
 
 of-syncinfo : Begins fields (λ _ left. left ≡ bsiFields) syncinfo
 unfolding syncinfo _>>=_
-of-syncinfo = (refl, λ syncword. past _ _ _ (not (eqb syncword 0x0B77)) 2 _ (refl, (refl, λ fscod. (refl, λ code. past _ _ _ (eqb (frameBytes fscod code) 0) 3 _ refl))))
+of-syncinfo = (refl, λ syncword. past _ _ _ (not (eqb syncword 0x0B77)) notSync _ (refl, (refl, λ fscod. (refl, λ code. past _ _ _ (eqb (frameBytes fscod code) 0) noFrameSize _ refl))))
 
 of-bsi : (fscod bytes : ℕ) → Begins bsiFields (λ _ _. ⊥) (bsi fscod bytes)
 unfolding bsi _>>=_
-of-bsi fscod bytes = (refl, λ bsid. past _ _ _ (ltb 8 bsid) 5 _ (refl, (refl, λ acmod. tt)))
+of-bsi fscod bytes = (refl, λ bsid. past _ _ _ (ltb 8 bsid) badBsid _ (refl, (refl, λ acmod. tt)))
 
 of-frame : Begins fields (λ _ _. ⊥) syncframe
 unfolding syncframe header

@@ -10,11 +10,11 @@ use Rattle.bits.specs.Bits.{value}
 use Rattle.syntax.specs.declared.Role.the-variants.{Sync, Crc1, FrameSize}
 use Rattle.syntax.specs.Grammar.{plain, roled}
 use Rattle.syntax.specs.Names as Name
-use Rattle.syntax.specs.Numbers.{numbers}
+use Rattle.syntax.specs.Numbers.{rowWidth, numbers}
 use Rattle.syntax.specs.Rows.{isSpan}
 use Rattle.syntax.specs.Run.{Row, row, steering, unsteering}
 use Rattle.ac3.specs.Promise.{Call, input, listed, answerTo, Accepted}
-use Rattle.rows.specs.Look.{rowWidth, first, valueIn}
+use Rattle.rows.specs.Look.{first, valueIn}
 
 -- how many rows of a list stand before the first one of this name: all where none has it
 unfoldable pub indexOf : (name : ℕ) → List Row → ℕ

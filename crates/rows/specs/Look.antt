@@ -5,11 +5,9 @@ use Prim.Native.Nat.{ℕ, zero, suc, _+_, _*_}
 use lib.Dec.{eqb, leb, ltb}
 use lib.IntN.{ℤ, pos, negsuc}
 use lib.ListN.{length, getD, drop}
+use Rattle.syntax.specs.Numbers.{rowWidth}
 
--- the numbers of a row; where its name and its value stand among them
-abbrev pub rowWidth : ℕ
-rowWidth = 8
-
+-- where name and value stand among the numbers of a row
 abbrev pub nameColumn : ℕ
 nameColumn = 0
 

@@ -1,18 +1,17 @@
 // Looking into rows as a caller holds them: so many numbers to a row, in a lent run. (Public because operations on a frame's rows stand in
 // crates above.)
+use syntax::ROW;
 ghost use mathlib.Core.Path.{_≡_};
 ghost use Rattle.rows.specs.Look.{first, valueIn};
 
-// The numbers of a row, and which of them is the value. (The name comes first.)
-pub const ROW: usize = 8;
-
+// Which number of a row is its value. (The name comes first.)
 const VALUE: usize = 7;
 
 // The first of the first `count` rows that has this name; `count` where none has it.
 pub fn first(rows: &[i32], count: usize, name: u8) -> usize
     ensures { λ r. ⌜ r ≡ first count name (now (rows .entry)) ⌝ }
 {
-    let n = signed::least(count, rows.len() / ROW);
+    let n = naturals::least(count, rows.len() / ROW);
     let wanted = name as i32;
     let mut i = 0;
     while i < n {

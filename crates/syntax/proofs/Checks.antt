@@ -6,7 +6,9 @@ use Prim.Native.Nat.{ℕ, zero, suc, _+_, _<_}
 use native.Mathlib.Omega.{arith}
 use lib.Dec.{ltb}
 use Rattle.syntax.specs.declared.Item.{Item}
-use Rattle.syntax.specs.Run.{Refusal, past, full, number, Check, clear, stop, roomCheck, check}
+use Rattle.syntax.specs.declared.Refusal.{Refusal}
+use Rattle.syntax.specs.Refusals.{past, full}
+use Rattle.syntax.specs.Run.{Check, clear, stop, roomCheck, check}
 use Rattle.syntax.specs.Place.{Place, Outcome, no, except, stand}
 
 -- there is no row left, or there is
@@ -38,6 +40,6 @@ module _ {A : Type 0} (p : Place) {c : Check} (rest : Unit {0} → Outcome A) wh
   unfolding except
   except-clear e = rw e
 
-  pub except-stop : {why : Refusal} {bit : ℕ} → c ≡ stop why bit → except c p rest ≡ no (number why) (stand bit p)
+  pub except-stop : {why : Refusal} {bit : ℕ} → c ≡ stop why bit → except c p rest ≡ no why (stand bit p)
   unfolding except
   except-stop e = rw e

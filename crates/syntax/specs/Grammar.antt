@@ -1,29 +1,30 @@
 -- A grammar says which fields a frame has: a decision tree on the values that are read.
 -- What stands in a span, and the value of a `free` field, never reach the tree, by construction.
 use Prim.Native.Nat.{ℕ, zero, suc, _+_, _-_}
-use mathlib.Core.Bool.{Bool, true, false}
+use mathlib.Core.Bool.{Bool, true, false, _&&_, not}
 use mathlib.Core.List.{List}
 use lib.Dec.{eqb}
 use lib.ListN.{set}
 use Rattle.syntax.specs.declared.Item.{Item}
+use Rattle.syntax.specs.declared.Refusal.{Refusal}
 use Rattle.syntax.specs.declared.Role.{Role}
 use Rattle.syntax.specs.declared.Role.the-variants.{Plain}
 
 pub data Grammar (A : Type 0) : Type 0 where
   done : A → Grammar A  -- finished, with an answer
-  refuse : ℕ → Grammar A  -- a value was judged bad: the refusal's number
+  refuse : Refusal → Grammar A  -- a value was judged bad
   field : Item → ℕ → (ℕ → Grammar A) → Grammar A  -- a value of this width, which may steer the rest
   free : Item → ℕ → Grammar A → Grammar A  -- a value of this width that is recorded and steers nothing
   span : Item → ℕ → Grammar A → Grammar A  -- a span of this width, recorded with value 0
   walk : Item → List ℕ → Grammar A → Grammar A  -- a span walked piece by piece, and recorded after the walk
-  frame : (refusal bytes : ℕ) → Grammar A → Grammar A  -- the frame has this many bytes: refused if the input has fewer
+  frame : Refusal → (bytes : ℕ) → Grammar A → Grammar A  -- the frame has this many bytes: refused if the input has fewer
   here : (ℕ → Grammar A) → Grammar A  -- the bit reached, for the answer
 
 infixl 1 _>>=_ _>>_
 -- one grammar, and then the one that its answer chooses
 unfoldable pub _>>=_ : {A B : Type 0} → Grammar A → (A → Grammar B) → Grammar B
 done a >>= f = f a
-refuse n >>= f = refuse n
+refuse x >>= f = refuse x
 field i w k >>= f = field i w (λ v. k v >>= f)
 free i w k >>= f = free i w (k >>= f)
 span i w k >>= f = span i w (k >>= f)
@@ -73,16 +74,23 @@ pass i w = span i w (done tt)
 abbrev pub pieces : Item → List ℕ → Grammar (Unit {0})
 pieces i ws = walk i ws (done tt)
 
-abbrev pub framed : (refusal bytes : ℕ) → Grammar (Unit {0})
+abbrev pub framed : Refusal → (bytes : ℕ) → Grammar (Unit {0})
 framed x n = frame x n (done tt)
 
 abbrev pub position : Grammar ℕ
 position = here done
 
 -- what was read is judged
-abbrev pub refuseIf : (bad : Bool) (refusal : ℕ) → Grammar (Unit {0})
-refuseIf true n = refuse n
-refuseIf false n = done tt
+abbrev pub refuseIf : (bad : Bool) → Refusal → Grammar (Unit {0})
+refuseIf true x = refuse x
+refuseIf false x = done tt
+
+-- a flag that announces what a block needs: block 0 must have it set
+abbrev pub announced : (block name : ℕ) → Refusal → Grammar Bool
+announced block name x = do
+  sent ← flag (one block name)
+  refuseIf (eqb block 0 && not sent) x
+  done sent
 
 -- a part that is there only where a test holds
 abbrev pub when : Bool → Grammar (Unit {0}) → Grammar (Unit {0})

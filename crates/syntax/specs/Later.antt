@@ -10,8 +10,10 @@ use lib.IntN.{ℤ}
 use lib.ListN.{length}
 use Rattle.bits.specs.Bits.{bitAt, value}
 use Rattle.syntax.specs.declared.Item.{Item}
+use Rattle.syntax.specs.declared.Refusal.{Refusal}
 use Rattle.syntax.specs.Grammar.{Grammar, done, refuse, field, free, span, walk, frame, here}
 use Rattle.syntax.specs.Run.{Spot, End, reached, refused, Result, Check, clear, stop, rowCheck, walkCheck, sum, beyond, within, start, parse, rowsOf, endOf}
+use Rattle.syntax.specs.Numbers.{rowWidth}
 use Rattle.syntax.specs.Rows.{isSpan, Agree}
 use Rattle.syntax.specs.Place.{Outcome, got, no, exec, fresh}
 
@@ -26,7 +28,7 @@ module _ {A : Type 0} (g : Grammar A) where
     -- they need not agree inside spans: as a list of rows, and in place
     pub spans-idle : (s t : List ℕ) (m : ℕ) → length s ≡ length t → Agree isSpan s t (rowsOf g s m) (endOf g s m) → parse g t m ≡ parse g s m
     pub in-place : (s t : List ℕ) (room : List ℤ) → length s ≡ length t
-        → let m = length room / 8 in
+        → let m = length room / rowWidth in
         Agree isSpan s t (rowsOf g s m) (endOf g s m) → exec g t (fresh room) ≡ exec g s (fresh room)
 
 -- ---- appending
@@ -39,7 +41,7 @@ Past (stop why bit) rest = ⊥
 -- the run ends at a `frame` that asks for more bytes than the input has
 unfoldable pub TooShort : {A : Type 0} → Grammar A → List ℕ → Spot → Type 0
 TooShort (done a) s p = ⊥
-TooShort (refuse n) s p = ⊥
+TooShort (refuse x) s p = ⊥
 TooShort (field i w k) s p = Past (rowCheck i p w) (TooShort (k (value s (p .at) w)) s (beyond w p))
 TooShort (free i w k) s p = Past (rowCheck i p w) (TooShort k s (beyond w p))
 TooShort (span i w k) s p = Past (rowCheck i p w) (TooShort k s (beyond w p))
@@ -64,21 +66,21 @@ Appending g = (s more : List ℕ) (m : ℕ) → ¬ TooShort g s (start (length s
 -- this many bytes is too short.
 pub data ShortBy {A : Type 0} (short : ℕ → Bool) (most : ℕ) : Grammar A → Type 0 where
   s-done : {a : A} → ShortBy short most (done a)
-  s-refuse : {n : ℕ} → T (not (short n)) → ShortBy short most (refuse n)
+  s-refuse : {x : Refusal} → T (not (short (x .number))) → ShortBy short most (refuse x)
   s-field : {i : Item} {w : ℕ} {k : ℕ → Grammar A} → ((v : ℕ) → ShortBy short most (k v)) → ShortBy short most (field i w k)
   s-free : {i : Item} {w : ℕ} {k : Grammar A} → ShortBy short most k → ShortBy short most (free i w k)
   s-span : {i : Item} {w : ℕ} {k : Grammar A} → ShortBy short most k → ShortBy short most (span i w k)
   s-walk : {i : Item} {ws : List ℕ} {k : Grammar A} → ShortBy short most k → ShortBy short most (walk i ws k)
-  s-frame : {x n : ℕ} {k : Grammar A} → T (short x) → n ≤ most → ShortBy short most k → ShortBy short most (frame x n k)
+  s-frame : {x : Refusal} {n : ℕ} {k : Grammar A} → T (short (x .number)) → n ≤ most → ShortBy short most k → ShortBy short most (frame x n k)
   s-here : {k : ℕ → Grammar A} → ((at : ℕ) → ShortBy short most (k at)) → ShortBy short most (here k)
 
 abbrev pub EndsShort : {A : Type 0} → (ℕ → Bool) → End A → Type 0
 EndsShort short (reached a) = ⊥
-EndsShort short (refused n) = T (short n)
+EndsShort short (refused x) = T (short (x .number))
 
 abbrev pub StopsShort : {A : Type 0} → (ℕ → Bool) → Outcome A → Type 0
 StopsShort short (got a p) = ⊥
-StopsShort short (no n p) = T (short n)
+StopsShort short (no x p) = T (short (x .number))
 
 module _ {A : Type 0} (short : ℕ → Bool) (most : ℕ) (g : Grammar A) where
   pub record AppendingByNumber : Type 0 where

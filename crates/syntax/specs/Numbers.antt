@@ -1,4 +1,4 @@
--- The eight numbers that record a row.
+-- The numbers that record a row.
 use Prim.Native.Nat.{ℕ}
 use lib.Dec.{eqb}
 use mathlib.Core.Bool.{cond}
@@ -36,6 +36,10 @@ roleNumbers AuxDataL = (17, 255)
 roleNumbers AuxDataE = (18, 255)
 roleNumbers BlkStrtInfoE = (19, 255)
 roleNumbers BlkStrtInfo = (20, 255)
+
+-- so many are the numbers of a row
+abbrev pub rowWidth : ℕ
+rowWidth = 8
 
 -- name, role, programme, block, index, position, width, value
 abbrev pub numbers : Row → List ℤ

@@ -7,6 +7,8 @@ use lib.Dec.{ltb}
 use lib.ListN.{length}
 use Rattle.bits.specs.Bits.{value}
 use Rattle.syntax.specs.declared.Item.{Item}
+use Rattle.syntax.specs.declared.Refusal.{Refusal}
+use Rattle.syntax.specs.Refusals.{past, full}
 use Rattle.syntax.specs.Grammar.{Grammar, done, refuse, field, free, span, walk, frame, here}
 
 pub data Kind : Type 0 where
@@ -28,25 +30,14 @@ pub record Spot : Type 0 where
 
 pub data End (A : Type 0) : Type 0 where
   reached : A → End A
-  refused : ℕ → End A
+  refused : Refusal → End A
 
 pub record Result (A : Type 0) : Type 0 where
   pub rows : List Row
   pub spot : Spot
   pub end : End A
 
--- ---- refusals, and the checks that give them
-
-pub data Refusal : Type 0 where
-  judged : ℕ → Refusal  -- a value is bad, or the input is too short: the grammar gives the number
-  past : Item → Refusal  -- this item would end past the frame
-  full : Refusal  -- no row is left
-
--- what is told of a refusal
-abbrev pub number : Refusal → ℕ
-number (judged n) = n
-number (past i) = 6
-number full = 7
+-- ---- the checks that refuse
 
 -- nothing is in the way; or this refusal, which stands at this bit
 pub data Check : Type 0 where
@@ -75,8 +66,8 @@ rowCheck i p w = check i (p .limit) (p .left) (p .at) (w ∷ []) (p .at)
 abbrev pub walkCheck : Item → Spot → List ℕ → Check
 walkCheck i p ws = check i (p .limit) (p .left) (p .at + sum ws) ws (p .at)
 
-abbrev pub frameCheck : Spot → (refusal bytes : ℕ) → Check
-frameCheck p x n = cond (ltb (p .size) n) (stop (judged x) (p .at)) clear
+abbrev pub frameCheck : Spot → Refusal → (bytes : ℕ) → Check
+frameCheck p x n = cond (ltb (p .size) n) (stop x (p .at)) clear
 
 -- ---- the run
 
@@ -103,11 +94,11 @@ r after before = record { rows = before ++ r .rows; spot = r .spot; end = r .end
 
 unfoldable pub unless : {A : Type 0} → Check → Spot → (Unit {0} → Result A) → Result A
 unless clear p rest = rest tt
-unless (stop r bit) p rest = ended (standing bit p) (refused (number r))
+unless (stop x bit) p rest = ended (standing bit p) (refused x)
 
 unfoldable pub run : {A : Type 0} → Grammar A → List ℕ → Spot → Result A
 run (done a) s p = ended p (reached a)
-run (refuse n) s p = ended p (refused (number (judged n)))
+run (refuse x) s p = ended p (refused x)
 run (field i w k) s p =
     let v = value s (p .at) w in
     unless (rowCheck i p w) p (λ _. run (k v) s (beyond w p) after row steering i (p .at) w v ∷ [])
@@ -119,7 +110,7 @@ run (here k) s p = run (k (p .at)) s p
 
 -- a run, and then what its answer chooses, from where it stands
 unfoldable pub continue : {A B : Type 0} → Result A → (A → Spot → Result B) → Result B
-continue r next = elim (r .end) [ reached a ↦ next a (r .spot) after r .rows | refused n ↦ ended (r .spot) (refused n) after r .rows ]
+continue r next = elim (r .end) [ reached a ↦ next a (r .spot) after r .rows | refused x ↦ ended (r .spot) (refused x) after r .rows ]
 
 -- ---- a whole input of this many bytes, with room for this many rows: nothing may be read until a frame's size is known
 

@@ -1,34 +1,27 @@
-// Elements of a block that stand under a test, in a row, or with a role; and tests.
+// Elements that stand under a test, or one after the other for each channel or band; and tests.
 use crate::Cursor;
 use crate::Flagged;
 use crate::Item;
-use crate::NONE;
-use crate::Role;
+use crate::Refusal;
 use crate::Taken;
+use crate::cursors::refuse_if;
+use crate::items::nth;
+use crate::items::one;
+use crate::readers::flag;
+use crate::readers::note;
+use crate::readers::take;
 ghost use mathlib.Core.Path.{_≡_};
 ghost use mathlib.Core.Bool.{false, _&&_, not};
-ghost use Prim.Native.Nat.{_<_, _≤_, _^_};
-ghost use Rattle.syntax.specs.Grammar as syntax;
+ghost use Prim.Native.Nat.{_<_, _≤_, _^_, _+_};
+ghost use Rattle.syntax.specs.Grammar as grammar;
 ghost use Rattle.syntax.specs.Reads.{Reads};
 
-// An element with a role.
-pub fn roled(block: u8, role: Role, name: u8) -> Item
-    ensures { λ r. ⌜ r ≡ syntax.oneRoled block role name ⌝ }
-{
-    Item {
-        name,
-        role,
-        block,
-        index: NONE,
-    }
-}
-
 // A flag that is there only where a test holds: else it counts as not set.
-pub fn flag_if(s: &[u8], rows: &mut [i32], c: Cursor, present: bool, blk: u8, name: u8) -> Flagged
-    ensures { λ r. ⌜ Reads (syntax.readIf present false (syntax.flag (syntax.one blk name))) (now (s .entry)) c (now (rows .entry)) (r .set) (r .cursor) (now (rows .exit)) ⌝ }
+pub fn flag_if(s: &[u8], rows: &mut [i32], c: Cursor, present: bool, item: Item) -> Flagged
+    ensures { λ r. ⌜ Reads (grammar.readIf present false (grammar.flag item)) (now (s .entry)) c (now (rows .entry)) (r .set) (r .cursor) (now (rows .exit)) ⌝ }
 {
     if present {
-        crate::flag_nth(s, rows, c, blk, name, NONE)
+        flag(s, rows, c, item)
     } else {
         Flagged {
             set: false,
@@ -43,16 +36,15 @@ pub fn take_if(
     rows: &mut [i32],
     c: Cursor,
     present: bool,
-    blk: u8,
-    name: u8,
+    item: Item,
     width: u16,
 ) -> Taken
     requires { ⌜ width ≤ 16 ⌝ }
-    ensures { λ r. ⌜ Reads (syntax.readIf present 0 (syntax.take (syntax.one blk name) width)) (now (s .entry)) c (now (rows .entry)) (r .value) (r .cursor) (now (rows .exit)) ⌝ }
+    ensures { λ r. ⌜ Reads (grammar.readIf present 0 (grammar.take item width)) (now (s .entry)) c (now (rows .entry)) (r .value) (r .cursor) (now (rows .exit)) ⌝ }
     ensures { λ r. ⌜ r .value < 2 ^ width ⌝ }
 {
     if present {
-        crate::take_nth(s, rows, c, blk, name, NONE, width)
+        take(s, rows, c, item, width)
     } else {
         Taken {
             value: 0,
@@ -61,15 +53,51 @@ pub fn take_if(
     }
 }
 
+// A value that is there only where a test holds, and that steers nothing.
+pub fn note_if(
+    s: &[u8],
+    rows: &mut [i32],
+    c: Cursor,
+    present: bool,
+    item: Item,
+    width: u16,
+) -> Cursor
+    requires { ⌜ width ≤ 16 ⌝ }
+    ensures { λ r. ⌜ Reads (grammar.when present (grammar.note item width)) (now (s .entry)) c (now (rows .entry)) tt r (now (rows .exit)) ⌝ }
+{
+    if present {
+        return note(s, rows, c, item, width);
+    }
+    c
+}
+
 // Flags that steer nothing: one for each channel or band.
 pub fn flags(s: &[u8], rows: &mut [i32], c: Cursor, blk: u8, name: u8, count: u8) -> Cursor
-    ensures { λ r. ⌜ Reads (syntax.each count (λ i. syntax.note (syntax.nth blk name i) 1)) (now (s .entry)) c (now (rows .entry)) tt r (now (rows .exit)) ⌝ }
+    ensures { λ r. ⌜ Reads (grammar.each count (λ i. grammar.note (grammar.nth blk name i) 1)) (now (s .entry)) c (now (rows .entry)) tt r (now (rows .exit)) ⌝ }
 {
     let mut cursor = c;
     for i in 0..count {
-        cursor = crate::note_nth(s, rows, cursor, blk, name, i, 1);
+        cursor = note(s, rows, cursor, nth(blk, name, i), 1);
     }
     cursor
+}
+
+// A flag that announces what a block needs: block 0 must have it set.
+pub fn announced(
+    s: &[u8],
+    rows: &mut [i32],
+    c: Cursor,
+    blk: u8,
+    name: u8,
+    refusal: Refusal,
+) -> Flagged
+    requires { ⌜ 0 < refusal .number ⌝ }
+    ensures { λ r. ⌜ Reads (grammar.announced blk name refusal) (now (s .entry)) c (now (rows .entry)) (r .set) (r .cursor) (now (rows .exit)) ⌝ }
+{
+    let sent = flag(s, rows, c, one(blk, name));
+    let set = sent.set;
+    let cursor = refuse_if(sent.cursor, and_not(blk == 0, set), refusal);
+    Flagged { set, cursor }
 }
 
 // One test holds and the other does not.

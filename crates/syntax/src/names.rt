@@ -1,4 +1,5 @@
-// The names of the fields, numbered in the order in which parsing first reaches them (docs/NAMES.md).
+// The names of the fields, numbered in the order in which parsing first reaches them (docs/NAMES.md). Those of a second programme are reached
+// by adding to the first one's, and are not here.
 
 // syncinfo, 4.3.1
 pub const SYNCWORD: u8 = 1;
@@ -24,7 +25,7 @@ pub const DSURMOD: u8 = 10;
 
 pub const LFEON: u8 = 11;
 
-// a programme, and its twin of the second programme eight further on
+// a programme; the second one's names stand eight further on
 pub const DIALNORM: u8 = 12;
 
 pub const COMPRE: u8 = 13;
@@ -40,22 +41,6 @@ pub const AUDPRODIE: u8 = 17;
 pub const MIXLEVEL: u8 = 18;
 
 pub const ROOMTYP: u8 = 19;
-
-pub const DIALNORM2: u8 = 20;
-
-pub const COMPR2E: u8 = 21;
-
-pub const COMPR2: u8 = 22;
-
-pub const LANGCOD2E: u8 = 23;
-
-pub const LANGCOD2: u8 = 24;
-
-pub const AUDPRODI2E: u8 = 25;
-
-pub const MIXLEVEL2: u8 = 26;
-
-pub const ROOMTYP2: u8 = 27;
 
 // after them
 pub const COPYRIGHTB: u8 = 28;
@@ -110,10 +95,6 @@ pub const DITHFLAG: u8 = 50;
 pub const DYNRNGE: u8 = 51;
 
 pub const DYNRNG: u8 = 52;
-
-pub const DYNRNG2E: u8 = 53;
-
-pub const DYNRNG2: u8 = 54;
 
 // coupling
 pub const CPLSTRE: u8 = 55;

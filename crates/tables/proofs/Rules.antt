@@ -1,6 +1,6 @@
 -- Rules of tables, computed once over the whole table and carried to every entry: one whose entries are at most a bound, and one
 -- that falls by at most one from entry to entry. Assumes nothing.
-use mathlib.Core.Bool.{Bool, true, false, _&&_}
+use mathlib.Core.Bool.{Bool, true, _&&_}
 use mathlib.Core.List.{List, [], _∷_}
 use Prim.Native.Nat.{ℕ, zero, suc, _≤_, _^_, zero-le}
 use native.Mathlib.Nat.{le-trans}
@@ -9,15 +9,8 @@ use lib.IntN.{ℤ, pos}
 use lib.ListN.{getD}
 use lib.Pow.{pow-pos}
 use lib.Signed.{mag}
+use store.Enc.{and-l, and-r}
 use Rattle.signed.specs.Bound.{Below}
-
-pub both-left : (a b : Bool) → T (a && b) → T a
-both-left true b t = tt
-both-left false b t = t
-
-pub both-right : (a b : Bool) → T (a && b) → T b
-both-right true b t = t
-both-right false b t = absurd t
 
 -- each entry is at most n
 abbrev pub small : ℕ → List ℕ → Bool
@@ -26,8 +19,8 @@ small n (y ∷ ys) = leb y n && small n ys
 
 pub small-at : (n : ℕ) (ys : List ℕ) → T (small n ys) → (k : ℕ) → getD ys k 0 ≤ n
 small-at n [] t k = zero-le
-small-at n (y ∷ ys) t zero = leb→le y n (both-left (leb y n) (small n ys) t)
-small-at n (y ∷ ys) t (suc k) = small-at n ys (both-right (leb y n) (small n ys) t) k
+small-at n (y ∷ ys) t zero = leb→le y n (and-l (leb y n) (small n ys) t)
+small-at n (y ∷ ys) t (suc k) = small-at n ys (and-r (leb y n) (small n ys) t) k
 
 -- each entry is below k bits
 abbrev pub near : ℕ → List ℤ → Bool
@@ -36,8 +29,8 @@ near k (z ∷ zs) = ltb (mag z) (2 ^ k) && near k zs
 
 pub near-at : (k : ℕ) (zs : List ℤ) → T (near k zs) → (n : ℕ) → Below k (getD zs n (pos 0))
 near-at k [] t n = record { below = pow-pos k }
-near-at k (z ∷ zs) t zero = record { below = ltb→lt (mag z) (2 ^ k) (both-left (ltb (mag z) (2 ^ k)) (near k zs) t) }
-near-at k (z ∷ zs) t (suc n) = near-at k zs (both-right (ltb (mag z) (2 ^ k)) (near k zs) t) n
+near-at k (z ∷ zs) t zero = record { below = ltb→lt (mag z) (2 ^ k) (and-l (ltb (mag z) (2 ^ k)) (near k zs) t) }
+near-at k (z ∷ zs) t (suc n) = near-at k zs (and-r (ltb (mag z) (2 ^ k)) (near k zs) t) n
 
 -- each entry equals the one before it or is one less; x stands before the first
 abbrev pub falls : ℕ → List ℕ → Bool
@@ -51,6 +44,6 @@ entry x y ys h all (suc k) = le-trans (all k) h
 pub falls-le : (x : ℕ) (ys : List ℕ) → T (falls x ys) → (k : ℕ) → getD ys k 0 ≤ x
 falls-le x [] t k = zero-le
 falls-le x (y ∷ ys) t k =
-    let first = leb→le y x (both-left (leb y x) (leb x (suc y) && falls y ys) t) in
-    let rest = both-right (leb x (suc y)) (falls y ys) (both-right (leb y x) (leb x (suc y) && falls y ys) t) in
+    let first = leb→le y x (and-l (leb y x) (leb x (suc y) && falls y ys) t) in
+    let rest = and-r (leb x (suc y)) (falls y ys) (and-r (leb y x) (leb x (suc y) && falls y ys) t) in
     entry x y ys first (falls-le y ys rest) k

@@ -160,14 +160,3 @@ pub fn mantissa_bits() -> [u8; 16]
 {
     entries::BAP_BITS
 }
-
-// Table 6.17 once more, for a single bap; 0 past the table.
-pub fn bap_bits(bap: u8) -> u8
-    ensures { λ r. ⌜ (r ≡ standard.bapBits bap) × (r ≤ 16) ⌝ }
-{
-    if bap < 16 {
-        entries::BAP_BITS[bap as usize]
-    } else {
-        0
-    }
-}

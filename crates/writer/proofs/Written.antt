@@ -7,15 +7,10 @@ use native.Mathlib.Nat.{add-zero}
 use native.Mathlib.Numerals.{add-one}
 use native.Mathlib.Omega.{arith}
 use lib.ListN.{length, take, drop, getD, set, length-set, length-take, take-append-drop, drop-of-length-le}
+use Rattle.naturals.proofs.Stored.{sets-append}
 use lib.Seq.{sets, sets-eq, length-sets, set-out, take-suc, length-take-le}
 
 module _ {A : Type 0} where
-  pub sets-append : (xs ys l : List A) (i : ℕ) → sets l i (xs ++ ys) ≡ sets (sets l i xs) (i + length xs) ys
-  sets-append [] ys l i = ap (λ k. sets l k ys) (sym (add-zero i))
-  sets-append (x ∷ xs) ys l i =
-      let next : suc i + length xs ≡ i + suc (length xs) = omega arith in
-      sets-append xs ys (set l i x) (suc i) ∙ ap (λ k. sets (sets (set l i x) (suc i) xs) k ys) next
-
   sets-out : (vs l : List A) (i : ℕ) → length l ≤ i → sets l i vs ≡ l
   sets-out [] l i h = refl
   sets-out (v ∷ vs) l i h = sets-out vs (set l i v) (suc i) (omega (arith, length-set l i v)) ∙ set-out l i v h
@@ -33,13 +28,13 @@ module _ {A : Type 0} where
     store i d h =
         let place : at + i ≡ at + length (take i vs) = omega (arith, length-take-le i vs (omega arith)) in
         ap (λ k. sets (sets run at (take i vs)) k (getD vs i d ∷ [])) place
-        ∙ sym (sets-append (take i vs) (getD vs i d ∷ []) run at)
+        ∙ sym (sets-append (take i vs) (getD vs i d ∷ []) run at (at + length (take i vs)) refl)
         ∙ ap (sets run at) (sym (take-suc vs i d h))
         ∙ rw add-one
 
     -- all that fit are all
     pub whole : (n : ℕ) → n ≡ min (length vs) (length run - at) → sets run at (take n vs) ≡ sets run at vs
-    whole n e = sym (ap (sets run at) (sym (take-append-drop n vs)) ∙ sets-append (take n vs) (drop n vs) run at ∙ rest (decLe (length vs) n))
+    whole n e = sym (ap (sets run at) (sym (take-append-drop n vs)) ∙ sets-append (take n vs) (drop n vs) run at (at + length (take n vs)) refl ∙ rest (decLe (length vs) n))
       where
         before : List A
         before = sets run at (take n vs)

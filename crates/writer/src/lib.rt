@@ -1,7 +1,9 @@
-// Writing into lent bytes. Each function promises every byte of the run: what does not fit is not written, and the others are as they were.
-// (Public because those who write bursts, frames and listings stand in crates above.)
+// Writing into lent bytes and numbers. Each function promises the whole run: what does not fit is not written, and the rest is as it was.
+// (Public because those who write bursts, frames, listings and answers stand in crates above.)
+ghost use mathlib.Core.List.{map};
 ghost use mathlib.Core.Path.{_≡_};
 ghost use Prim.Native.Nat.{_-_, min};
+ghost use lib.IntN.{pos};
 ghost use lib.ListN.{length, replicate};
 ghost use lib.Seq.{sets};
 ghost use Rattle.writer.specs.Words.{wordBytes};
@@ -13,7 +15,7 @@ fn fitting(room: usize, at: usize, n: usize) -> usize
     if room < at {
         return 0;
     }
-    signed::least(n, room - at)
+    naturals::least(n, room - at)
 }
 
 // Copies bytes into a run, from a place on.
@@ -45,4 +47,22 @@ pub fn word(run: &mut [u8], at: usize, w: u16)
     ensures { λ _. ⌜ now (run .exit) ≡ sets (now (run .entry)) at (wordBytes w) ⌝ }
 {
     copy(&[(w / 256) as u8, (w % 256) as u8], run, at);
+}
+
+fn wide(n: u16) -> i32
+    ensures { λ r. ⌜ r ≡ pos n ⌝ }
+{
+    n as i32
+}
+
+// Writes small numbers to the front of a run, as a caller reads them.
+pub fn numbers(from: &[u16], run: &mut [i32])
+    ensures { λ _. ⌜ now (run .exit) ≡ sets (now (run .entry)) 0 (map pos (now (from .entry))) ⌝ }
+{
+    let n = fitting(run.len(), 0, from.len());
+    let mut i = 0;
+    while i < n {
+        run[i] = wide(from[i]);
+        i += 1;
+    }
 }

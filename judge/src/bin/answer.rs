@@ -1,11 +1,12 @@
-//! The listing program of docs/FORMAT.md over the judge: one frame on standard input, at most 3,840
-//! bytes, 2,048 rows. `answer --all` goes through every frame of the input instead, with 4,096
-//! rows: after each listing it goes on behind the frame, up to the first refusal or the end.
-//! `--rows N` lends another number of rows; `--summary` adds a line with the summary's 21 numbers.
+//! The listing program of docs/FORMAT.md over the judge: one frame on standard input, with its bytes
+//! and rows. `answer --all` goes through every frame of the input instead, with the rows of any
+//! frame: after each listing it goes on behind the frame, up to the first refusal or the end.
+//! `--rows N` lends another number of rows; `--summary` adds a line with the summary's numbers.
 
+use judge::corners::MOST_ROWS;
 use judge::cut::answer;
+use judge::layout::{answer_at, ROW};
 use judge::listing::{listing, BYTES, ROWS};
-use judge::names::ROW;
 use std::io::{self, Read, Write};
 
 fn main() -> io::Result<()> {
@@ -14,7 +15,7 @@ fn main() -> io::Result<()> {
     let all = given("--all").is_some();
     let rows = match given("--rows") {
         Some(at) => arguments[at + 1].parse().expect("a number of rows"),
-        None if all => 2 * ROWS,
+        None if all => MOST_ROWS,
         None => ROWS,
     };
     let mut input = Vec::new();
@@ -28,7 +29,7 @@ fn main() -> io::Result<()> {
         out.write_all(listing(&got, &room).as_bytes())?;
         if given("--summary").is_some() {
             let numbers = got.numbers().map(|n| n.to_string());
-            writeln!(out, "summary {}", numbers[3..].join(" "))?;
+            writeln!(out, "summary {}", numbers[answer_at::SUMMARY..].join(" "))?;
         }
         match &got.verdict {
             Ok(s) if all && place + s.bytes < input.len() => place += s.bytes,

@@ -3,7 +3,7 @@
 
 use judge::burst::{write, BURST, WORDS};
 use judge::cut::MANY_ROWS;
-use judge::names::ROW;
+use judge::layout::ROW;
 use std::io::{self, Read, Write};
 
 fn main() -> io::Result<()> {

@@ -4,6 +4,7 @@
 
 use judge::cases::{Amounts, Generator};
 use judge::corners::MOST_ROWS;
+use judge::cut::REFUSALS;
 use judge::features::FEATURES;
 use judge::goals::{self, *};
 use judge::names::{self, number, NAMES};
@@ -24,7 +25,7 @@ fn main() {
     let count = names::COUNT as i32;
 
     let calls = generator.calls;
-    let refused: usize = (1..=20).map(|n| counts.of((REFUSAL, n, 0))).sum();
+    let refused: usize = (1..=REFUSALS).map(|n| counts.of((REFUSAL, n, 0))).sum();
     let accepted = calls - refused;
     println!("{calls} inputs: {accepted} accepted, {refused} refused");
     let average = generator.accepted_rows / accepted.max(1);
@@ -39,7 +40,7 @@ fn main() {
         println!("{n:5} {:13} {with:7} {six:6} {seven:6}", name.text);
     }
     println!("\nrefusal: inputs, and by the name of the last row written");
-    for n in 1..=20 {
+    for n in 1..=REFUSALS {
         let mut line = format!("{n:5} {:7}", counts.of((REFUSAL, n, 0)));
         if n != 6 && n != 7 {
             for after in 0..=count {

@@ -8,8 +8,8 @@ pub mod ac3;
 pub mod blocks;
 
 use crate::bits;
-use crate::names::{number, role_numbers, ROW};
-use crate::syntax::Role;
+use crate::layout::{answer_at, row, ANSWER, ROW};
+use crate::syntax::{Field, Role};
 
 /// A refusal: its number in docs/FORMAT.md and the Rust's own text, kept to compare with the published
 /// parser. Number 0 marks the sites that cannot be reached, as docs/FORMAT.md says.
@@ -20,6 +20,9 @@ pub struct No {
 }
 
 pub type Result<T> = std::result::Result<T, No>;
+
+/// A frame's own refusals are 1 to this.
+pub const REFUSALS: i32 = 20;
 
 pub fn no<T>(number: u32, text: impl Into<String>) -> Result<T> {
     Err(No {
@@ -44,27 +47,24 @@ pub struct Summary {
     pub coordinates_sent: bool,
 }
 
-/// How many numbers a summary is.
-pub const SUMMARY: usize = 21;
-
 impl Summary {
-    /// The summary as numbers; yes is 1.
-    pub fn numbers(&self) -> [i32; SUMMARY] {
-        let mut numbers = vec![
-            self.rows,
-            self.bytes,
-            self.audio_end,
-            self.bsid.into(),
-            self.acmod.into(),
-            self.lfeon.into(),
-            self.fscod.into(),
-            self.cpl_blocks,
-        ];
-        numbers.extend(self.block_starts);
-        numbers.extend(self.mantissa_starts);
-        numbers.push(self.coordinates_sent.into());
-        let numbers: [usize; SUMMARY] = numbers.try_into().expect("21 numbers");
-        numbers.map(|n| n as i32)
+    /// Writes the summary into an answer's numbers; yes is 1.
+    fn tell(&self, numbers: &mut [i32; ANSWER]) {
+        numbers[answer_at::SUMMARY] = self.rows as i32;
+        numbers[answer_at::BYTES] = self.bytes as i32;
+        numbers[answer_at::AUDIO_END] = self.audio_end as i32;
+        numbers[answer_at::BSID] = self.bsid.into();
+        numbers[answer_at::ACMOD] = self.acmod.into();
+        numbers[answer_at::LFEON] = self.lfeon.into();
+        numbers[answer_at::FSCOD] = self.fscod.into();
+        numbers[answer_at::CPL_BLOCKS] = self.cpl_blocks as i32;
+        for (block, start) in self.block_starts.into_iter().enumerate() {
+            numbers[answer_at::BLOCK_STARTS + block] = start as i32;
+        }
+        for (block, start) in self.mantissa_starts.into_iter().enumerate() {
+            numbers[answer_at::MANTISSA_STARTS + block] = start as i32;
+        }
+        numbers[answer_at::COORDINATES_SENT] = self.coordinates_sent.into();
     }
 }
 
@@ -122,7 +122,7 @@ impl<'a, S: Source> Cursor<'a, S> {
     /// The room rule, then the row.
     fn record(
         &mut self,
-        name: &str,
+        name: &'static str,
         role: Role,
         index: i16,
         pos: usize,
@@ -130,20 +130,18 @@ impl<'a, S: Source> Cursor<'a, S> {
         value: u32,
     ) -> Result<()> {
         let at = ROW * self.count;
-        let Some(row) = self.room.get_mut(at..at + ROW) else {
+        let Some(room) = self.room.get_mut(at..at + ROW) else {
             return no(7, "no row left");
         };
-        let (role, programme) = role_numbers(role);
-        row.copy_from_slice(&[
-            number(name),
+        room.copy_from_slice(&row(&Field {
+            name,
             role,
-            programme,
-            self.block.into(),
-            index.into(),
-            pos as i32,
-            width as i32,
-            value as i32,
-        ]);
+            block: self.block,
+            index,
+            pos,
+            width,
+            value,
+        }));
         self.count += 1;
         Ok(())
     }
@@ -212,12 +210,14 @@ impl Answer {
         self.verdict.as_ref().map_or_else(|no| no.number, |_| 0)
     }
 
-    /// Number, rows, bit and the summary's numbers, which are all 0 on a refusal.
-    pub fn numbers(&self) -> [i32; 3 + SUMMARY] {
-        let mut numbers = [0; 3 + SUMMARY];
-        numbers[..3].copy_from_slice(&[self.number() as i32, self.rows as i32, self.bit as i32]);
+    /// The answer as numbers; the summary's are all 0 on a refusal.
+    pub fn numbers(&self) -> [i32; ANSWER] {
+        let mut numbers = [0; ANSWER];
+        numbers[answer_at::REFUSAL] = self.number() as i32;
+        numbers[answer_at::ROWS] = self.rows as i32;
+        numbers[answer_at::BIT] = self.bit as i32;
         if let Ok(summary) = &self.verdict {
-            numbers[3..].copy_from_slice(&summary.numbers());
+            summary.tell(&mut numbers);
         }
         numbers
     }

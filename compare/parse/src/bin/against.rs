@@ -3,14 +3,14 @@
 //! until there were that many inputs. Prints what was compared; status 1 on a difference, or where an input to be compared by name was not,
 //! or no frame of the most rows that a frame can have.
 
-use compare_parse::parse;
+use compare_parse::raw;
 use judge::agree::fresh_room;
 use judge::cases::{Amounts, Case, Generator};
 use judge::corners::MOST_ROWS;
-use judge::cut::MANY_ROWS;
+use judge::cut::{MANY_ROWS, REFUSALS};
 use judge::goals::by_name;
 use judge::hex;
-use judge::names::ROW;
+use judge::layout::ROW;
 
 fn main() {
     let args: Vec<usize> = std::env::args()
@@ -25,13 +25,14 @@ fn main() {
             std::process::exit(2);
         }
     };
-    let (mut differences, mut refused, mut numbers) = (0, [0usize; 21], 0usize);
+    let (mut differences, mut numbers) = (0, 0usize);
+    let mut refused = [0usize; REFUSALS as usize + 1];
     let fresh = fresh_room(ROW * (MANY_ROWS + 1));
     let mut room = Vec::with_capacity(fresh.len());
     let mut compare = |case: &Case<'_>| {
         room.clear();
         room.extend_from_slice(&fresh[..case.call.room.len()]);
-        let answer = parse(case.input, case.place, &mut room);
+        let (answer, _) = raw::parse(case.input, case.place, &mut room);
         numbers += room.len();
         refused[case.call.answer.number() as usize] += 1;
         if answer != case.call.answer.numbers() || room != case.call.room {

@@ -2,6 +2,8 @@
 //! each. The ways: `port`, the archive alone; `parser`, the Rust crate's `Parser` and the gain words by their role; `fields`, the same and
 //! every field; `parse`, the crate's `parse`, which makes a list; `rust`, the original.
 
+use compare_parse::layout::{answer_at, MOST_ROWS, ROW_NUMBERS};
+use compare_parse::raw;
 use ferrysprig::{Parser, Role};
 use judge::tables::ac3_frame_words;
 use std::hint::black_box;
@@ -42,10 +44,10 @@ fn main() {
     let wanted = |way: &str| args.get(2).is_none_or(|only| only == way);
     let frames = frames(&stream);
     if wanted("port") {
-        let mut rows = vec![0i32; ferrysprig::ROW_NUMBERS * ferrysprig::MOST_ROWS];
+        let mut rows = vec![0i32; ROW_NUMBERS * MOST_ROWS];
         best("port", passes, &frames, |f| {
-            let answer = compare_parse::parse(black_box(f), 0, &mut rows);
-            assert_eq!(black_box(answer)[0], 0);
+            let (answer, _) = raw::parse(black_box(f), 0, &mut rows);
+            assert_eq!(black_box(answer)[answer_at::REFUSAL], 0);
         });
     }
     if wanted("parser") {

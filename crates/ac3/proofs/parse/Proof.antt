@@ -4,10 +4,9 @@ use mathlib.Core.Path.{_≡_}
 use Prim.Native.Nat.{ℕ, _-_}
 use native.Mathlib.Omega.{arith}
 use lib.IntN.{ℤ}
-use lib.ListN.{length, drop, length-drop}
+use lib.ListN.{length, drop, length-drop, drop-of-length-le}
 use lib.Seq.{take-all}
 use borrow.Author.Needs.{needs}
-use Rattle.channels.proofs.Listed.{no-more}
 use Rattle.ac3.specs.Frame.{answer}
 use Rattle.ac3.specs.Promise.{call, Promised}
 use Rattle.ac3.specs.Within.{Within}
@@ -25,9 +24,9 @@ told capture place room e = let kept = promised (call capture place room) e in (
 
 past : tie.Need-returns
 past c =
-    let start = c .before .before .before in
+    let start = c .before .before .before .before in
     told (start .args .capture .now) (start .args .place) (start .args .rows .now)
-    (rw (c .refused .ensures, no-more (start .args .capture .now) (start .args .place) (omega (arith, c .before .if1 .taken))) (told-nothing _))
+    (rw (c .refused .ensures, c .before .halt .ensures, drop-of-length-le (start .args .capture .now) {i = start .args .place} (omega (arith, c .before .before .if1 .taken))) (told-nothing _))
 
 within : tie.Need-returns-2
 within c =
@@ -41,6 +40,7 @@ pub parse-spec : {M : Type 1} → statement M
 parse-spec =
     tie.close
     (tie.spec
+    (λ c κs. search needs)  -- halt-requires
     (λ c κs. search needs)  -- refused-requires
     past
     (λ c. search needs)  -- sub-syncframe

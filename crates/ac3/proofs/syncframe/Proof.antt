@@ -13,8 +13,8 @@ unfolding syncframe
 no-header c =
     let t2 = c in
     let t1 = t2 .before .before .before .before .before .before in
-    let nothing : Audio = record { header = t1 .header .result .header; tally = uncounted; end = 0 } in
-    rw (t2 .refused .ensures) (told-refused {a = nothing} (then _ (t1 .header .ensures .0) (stopped (t2 .before .if1 .taken))) (t2 .before .if1 .taken))
+    let nothing : Audio = record { header = t1 .read .result .header; tally = uncounted; end = 0 } in
+    rw (t2 .refused .ensures) (told-refused {a = nothing} (then _ (t1 .read .ensures .0) (stopped (t2 .before .if1 .taken))) (t2 .before .if1 .taken))
 
 no-audio : tie.Need-returns-2
 unfolding syncframe
@@ -22,24 +22,24 @@ no-audio c =
     let t3 = c in
     let t2 = t3 .before .before .before .before .before .before in
     let t1 = t2 .before .before .before .before .before .before .before in
-    rw (t3 .refused2 .ensures) (told-refused (then _ (t1 .header .ensures .0) (t2 .audio .ensures)) (t3 .before .if2 .taken))
+    rw (t3 .refused2 .ensures) (told-refused (then _ (t1 .read .ensures .0) (t2 .audio .ensures)) (t3 .before .if2 .taken))
 
 accepted : tie.Need-returns-3
 unfolding syncframe
 accepted c =
     let t2 = c .before .before .before .before .before in
     let t1 = t2 .before .before .before .before .before .before .before in
-    told-accepted (then _ (t1 .header .ensures .0) (t2 .audio .ensures)) (c .if2 .left)
+    told-accepted (then _ (t1 .read .ensures .0) (t2 .audio .ensures)) (c .if2 .left)
 
 pub syncframe-spec : {M : Type 1} → statement M
 syncframe-spec =
     tie.close
     (tie.spec
-    (λ c κs. search needs)  -- header-requires
+    (λ c κs. search needs)  -- read-requires
     (λ c κs. search needs)  -- refused-requires
     (λ c. search needs)  -- same-length
     no-header
-    (λ c κs. c .before .before .before .before .before .before .header .ensures .1)  -- audio-requires
+    (λ c κs. c .before .before .before .before .before .before .read .ensures .1)  -- audio-requires
     (λ c κs. search needs)  -- refused-requires-2
     (λ c. search needs)  -- same-length-2
     no-audio

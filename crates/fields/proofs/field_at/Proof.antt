@@ -5,6 +5,7 @@ use Prim.Native.Nat.{ℕ, _+_, _*_}
 use borrow.Author.Needs.{needs}
 use lib.IntN.{ℤ, pos}
 use lib.ListN.{getD}
+use Rattle.syntax.specs.Numbers.{rowWidth}
 use Rattle.fields.specs.Fields.{fieldOf}
 use Rattle.fields.proofs.Passed.{passed}
 use Rattle.fields.proofs.field_at.Statement.{statement}
@@ -13,7 +14,7 @@ use Rattle.fields.proofs.field_at.Tie as tie
 entries : tie.Need-returns
 entries c =
     let start = c .before .before .before .before .before .before .before .before .before in
-    let at = start .args .i * 8 in
+    let at = start .args .i * rowWidth in
     let n : ℕ → ℤ = λ k. getD (start .args .rows .now) k (pos 0) in
     c .field-of .ensures
     ∙ ap fieldOf

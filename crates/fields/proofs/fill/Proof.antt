@@ -50,6 +50,7 @@ use denote.Triple.Spec.{Meets, tripleOf}
 use denote.Triple.Table.{entered, cited}
 use denote.Triple.Walked.{says, needs, Stays, stay-slice, stay-none, stay-none-slice, walkOf, goes-slice, goes-none, goes-none-slice, Walks, ends-at, walked, walk-meets}
 use denote.Exit.{yes}
+use Rattle.syntax.specs.Numbers.{rowWidth}
 use Rattle.fields.specs.Fields.{blank, fieldAt, filled}
 use Rattle.fields.specs.declared.Field.{Field}
 use Rattle.fields.proofs.Field.Laws as F′
@@ -90,7 +91,7 @@ module _ {M : Type 1} (𝓤 : URA M) (H : Heap 𝓤) (A : Atoms 𝓤) (mem : Mem
 
 -- rows is `xs` behind `rs` at κ₀, and fields is `ys` behind (b, o) and γ at κ₁
 module _ {M : Type 1} (𝓤 : URA M) (H : Heap 𝓤) (A : Atoms 𝓤) (W : Given 𝓤 H A) (mem : Memory → SProp 𝓤) (run : Routine → Fun 𝓤) (κ₀ κ₁ : Lft) (q₀ q₁ : Share) (rs : RefT (List ℤ)) (count : ℕ) (b o : ℕ) (γ : GName) (ys : List Field)
-    (count-fits : count < 2 ^ 64) (rows-room : Room i32 (length (rs .now))) (room : Room R (length ys)) (enough : count * 8 ≤ length (rs .now)) (within : count ≤ length ys) where
+    (count-fits : count < 2 ^ 64) (rows-room : Room i32 (length (rs .now))) (room : Room R (length ys)) (enough : count * rowWidth ≤ length (rs .now)) (within : count ≤ length ys) where
   abbrev lent : List Field → RefT (List Field)
   lent l = record { ptr = (b, o); name = γ; now = l }
 
@@ -143,7 +144,7 @@ module _ {M : Type 1} (𝓤 : URA M) (H : Heap 𝓤) (A : Atoms 𝓤) (W : Given
 
   asked : (i : ℕ) → i < count → ent 𝓤 (sep 𝓤 (A .lft κ₀ q₀) (sem 𝓤 H A Own)) (FieldAt 𝓤 H A mem run .pre (to i))
   asked i less =
-      let row-there : i * 8 + 8 ≤ length (rs .now) = omega (arith, enough) in let i-fits : i < 2 ^ 64 = omega (arith, count-fits) in
+      let row-there : i * rowWidth + rowWidth ≤ length (rs .now) = omega (arith, enough) in let i-fits : i < 2 ^ 64 = omega (arith, count-fits) in
       qed W (‵ (flft κ₀ q₀) ∷ ‵ Own ∷ []) ∵ says ! row-there $ nothing ! $ move ! (1 ∷ 0 ∷ []) $ join ! $ frame ! $
       nothing ! $ owned ! usize (Is usize) (uint-makes 𝓤 H A W w64) i _ (refl, i-fits) $ fjoin ! $ move ! (1 ∷ 0 ∷ []) $ fjoin ! $ done !
 

@@ -38,6 +38,7 @@ use denote.Triple.Spec.{Meets, tripleOf}
 use denote.Triple.Table.{entered, cited}
 use denote.Triple.Walked.{says, Stays, gave-slice, stay-none, stay-none-slice, walkOf, goes-gave-slice, goes-none, goes-none-slice, Walks, ends-at, walked, walk-meets}
 use denote.Exit.{yes}
+use Rattle.syntax.specs.Numbers.{rowWidth}
 use Rattle.fields.specs.Fields.{fieldAt, filled, fitting, offered}
 use Rattle.fields.specs.declared.Field.{Field}
 use Rattle.fields.proofs.Element.{R}
@@ -131,7 +132,7 @@ module _ {M : Type 1} (𝓤 : URA M) (H : Heap 𝓤) (A : Atoms 𝓤) (W : Given
   asks-fill : (n : ℕ) (u : Val) → n ≡ fit
       → ent 𝓤 (sep 𝓤 (mean 𝓤 H A tokens) (sem 𝓤 H A (owns (ShrSlice (named 0) κ₀ i32 ∷ usize ∷ MutSlice (named 1) κ₁ R ∷ []) (a n) (vals u)))) (Fill 𝓤 H A mem run .pre (to-fill n u))
   asks-fill n u low =
-      let within : n * 8 ≤ length (rs .now) = omega (arith, low) in let there : n ≤ size = omega (arith, low) in
+      let within : n * rowWidth ≤ length (rs .now) = omega (arith, low) in let there : n ≤ size = omega (arith, low) in
       qed W (tokens ∷ ‵ (owns (ShrSlice (named 0) κ₀ i32 ∷ usize ∷ MutSlice (named 1) κ₁ R ∷ []) (a n) (vals u)) ∷ []) ∵ says ! (within, there) $ frame ! $ done !
 
   module _ (C : Calls 𝓤 H) (Λ : Loops 𝓤 H) (fm : FmC 𝓤 H (W .laws) C) (known-fits : Triple 𝓤 (C #fields·fitting) (Fitting 𝓤 H A mem run)) (known-fill : Triple 𝓤 (C #fields·fill) (Fill 𝓤 H A mem run)) where

@@ -31,7 +31,7 @@ use denote.Laws.{Is, Tells, Makes, shows}
 use denote.Array.{Array, array-lawful}
 use denote.Memory.{mem, shares}
 use denote.Plain.{uint-vals, uint-tells, uint-makes, uint-lawful}
-use denote.Signed.{sint-lawful}
+use denote.Signed.{sint-vals, sint-tells, sint-lawful}
 use denote.Builtin.{u8, i32, usize}
 use denote.Ref.{RefT}
 use denote.Slice.{sliceTy, sliceVal, ShrSlice, MutSlice, Room, finally, slice-vals, shr-slice-tells, shr-slice-copy, mut-slice-tells}
@@ -48,6 +48,7 @@ use denote.Triple.Spec.{Meets, tripleOf}
 use denote.Triple.Table.{entered, cited}
 use denote.Triple.Walked.{says, Stays, gave-slice, stay-none, stay-none-slice, walkOf, goes-gave-slice, goes-none, goes-none-slice, Walks, ends-at, walked, walk-meets}
 use denote.Exit.{yes}
+use Rattle.syntax.specs.Numbers.{rowWidth}
 use Rattle.ac3.specs.RowBound.{mostRows}
 use Rattle.ac3.specs.declared.Answer.{Answer}
 use Rattle.ac3.proofs.Answer as Ans
@@ -89,7 +90,7 @@ tells = LL.tells Ans.the-type Ans′.the-laws
 
 -- the local's numbers: how many, and that they have room
 abbrev N : ℕ
-N = mostRows * 8
+N = mostRows * rowWidth
 
 abbrev Zeros : List ℤ → Type 0
 Zeros xs = xs ≡ replicate N (pos 0)
@@ -235,15 +236,15 @@ module _ {M : Type 1} (𝓤 : URA M) (H : Heap 𝓤) (A : Atoms 𝓤) (W : Given
         assigns ! (agg ! (and-then ! (load ! (from ! (stop !)) (look ! 13 refl)) (and-then ! (big-lit ! (record { fits = lit< tt })) (no-more !)))) (from ! (stop !)) (init ! 11 refl (tt, (tt, (record { fits = lit< tt }, tt)))) $
         rewrite ! 11 (λ (m : ℕ). ‵ (fat fullShare (sliceTy (tyRef erased mut (tyInt w32))) l₁₀ 0 (sliceVal (l₄, 0) m))) (sym (long xs zeros)) refl $
         -- it is lent for a lifetime α
-        move ! (23 ∷ 0 ∷ []) $ use2 W (‵ (cells (mem i32) xs l₄ 0)) (to-run 𝓤 H A W N l₄ xs u) $ lft-new ! tt (λ α. move ! (1 ∷ []) $
+        move ! (23 ∷ 0 ∷ []) $ use2 W (‵ (cells (mem i32) xs l₄ 0)) (to-run 𝓤 H A W i32 tt (sint-vals w32) (sint-tells w32) N l₄ xs u) $ lft-new ! tt (λ α. move ! (1 ∷ []) $
         use1 W (later (some (λ (γ : GName). ‵ (MutSlice (named 1) (α ∷ []) i32 .own (lent l₄ γ xs) (s l₄ xs ∷ [])) ⊛ ‵ (flent (α ∷ []) (Held i32 (length xs) l₄ 0 γ))))) (lends-slice 𝓤 H A W i32 (named 1) (α ∷ []) xs l₄ 0 (has-room xs (long xs zeros))) $ await ! tt $ pick ! (λ γ. split ! $
         -- [the numbers; the lender's part; α's token; the run; capture; _14; …; that _4 dies; _3; …; the tokens]
         move ! (34 ∷ []) $ split ! $ move ! (6 ∷ []) $ use1 W (‵ Own ⊛ ‵ Own) (shr-slice-copy 𝓤 H A W (named 0) κ₀ u8 .twice cs (c-val ∷ [])) $ split ! $ move ! (2 ∷ 6 ∷ 0 ∷ 4 ∷ []) $
         join ! $ move ! (1 ∷ 2 ∷ []) $ join ! $ move ! (1 ∷ 0 ∷ []) $ use2 W (raw (Within 𝓤 H A mem″ run .pre (to-within l₄ α γ xs))) (asks-within l₄ α γ xs) $
         calls-at ! fm (Within 𝓤 H A mem″ run) known-within (to-within l₄ α γ xs) (and-then ! (load ! (from ! (stop !)) (look ! 17 refl)) (and-then ! (load ! (from ! (stop !)) (look ! 30 refl)) (and-then ! (load ! (from ! (stop !)) (look ! 28 refl)) (and-then ! (load ! (from ! (stop !)) (look ! 13 refl)) (no-more !))))) (λ v.
         use1 W (later (some (λ (r : Answer). ((‵ (flft κ₀ q₀) ⊛ (‵ (flft (α ∷ []) fullShare) ⊛ ‵ ftrue)) ⊛ ‵ (RA .own r (v ∷ []))) ⊛ raw (ensured 𝓤 H A within.ended (within.clauses 𝓤 H A mem″ run) (κ₀, ((α ∷ []), tt)) (for-within l₄ γ xs) tt r)))) (id⊢ 𝓤 _) $ await ! tt $ pick ! (λ r.
-        split ! $ move ! (1 ∷ []) $ use1 W (some (λ (ws : Unit {0} × (Unit {0} × (Unit {0} × (List ℤ × Unit {0})))). ‵ (lasts within.ended (κ₀, ((α ∷ []), tt)) (for-within l₄ γ xs) ws) ⊛ raw (fact 𝓤 ((r, ws .1 .1 .1 .0) ≡ answerWithin (min size (length xs / 8)) (cs .now) place xs)))) (id⊢ 𝓤 _) $ pick ! (λ ws.
-        split ! $ move ! (1 ∷ []) $ heard ! ((r, ws .1 .1 .1 .0) ≡ answerWithin (min size (length xs / 8)) (cs .now) place xs) (λ said. fsplit ! $ drop ! $ fsplit ! $ drop ! $ fsplit ! $ drop ! $ fsplit ! $ fsplit ! $ move ! (1 ∷ []) $ feqL ! (λ same-length.
+        split ! $ move ! (1 ∷ []) $ use1 W (some (λ (ws : Unit {0} × (Unit {0} × (Unit {0} × (List ℤ × Unit {0})))). ‵ (lasts within.ended (κ₀, ((α ∷ []), tt)) (for-within l₄ γ xs) ws) ⊛ raw (fact 𝓤 ((r, ws .1 .1 .1 .0) ≡ answerWithin (min size (length xs / rowWidth)) (cs .now) place xs)))) (id⊢ 𝓤 _) $ pick ! (λ ws.
+        split ! $ move ! (1 ∷ []) $ heard ! ((r, ws .1 .1 .1 .0) ≡ answerWithin (min size (length xs / rowWidth)) (cs .now) place xs) (λ said. fsplit ! $ drop ! $ fsplit ! $ drop ! $ fsplit ! $ drop ! $ fsplit ! $ fsplit ! $ move ! (1 ∷ []) $ feqL ! (λ same-length.
         move ! (2 ∷ []) $ split ! $ split ! $ move ! (1 ∷ []) $ split ! $ move ! (3 ∷ []) $ peeks ! RA (Is RA) (shows 𝓤 H A RA) r (v ∷ []) (λ r-is. drop ! $
         -- [α's token; true; capture's token; the last numbers; true; capture; fields' token; the lender's part; the run; _14; …]
         land ! (from ! (stop !)) (init ! 27 refl (typed r v r-is)) $ rewrite ! 27 (λ (x : Val). ‵ (fat fullShare Ans′.mir l₅ 0 x)) (ap only (tells r (v ∷ []) r-is)) refl $
@@ -270,7 +271,7 @@ module _ {M : Type 1} (𝓤 : URA M) (H : Heap 𝓤) (A : Atoms 𝓤) (W : Given
         -- [the tokens of β and of fields; the last records; true; the lender's part; capture's token; capture; _14; …]
         land ! (from ! (stop !)) (store ! 18 refl (uint-lawful 𝓤 H A W w64 .typed m _ m-is .0)) $
         -- β ends, and the array is room
-        split ! $ lft-end ! tt $ move ! (0 ∷ 4 ∷ []) $ lent-back ! tt $ fsplit ! $ drop ! $ use1 W (‵ (froom (tyArray (tyInt w32) N) l₄ 0)) (to-room 𝓤 H A W N l₄ (ws .1 .1 .1 .0) (same-length ∙ long xs zeros)) $
+        split ! $ lft-end ! tt $ move ! (0 ∷ 4 ∷ []) $ lent-back ! tt $ fsplit ! $ drop ! $ use1 W (‵ (froom (tyArray (tyInt w32) N) l₄ 0)) (to-room 𝓤 H A W i32 tt (sint-vals w32) (sint-tells w32) N l₄ (ws .1 .1 .1 .0) (same-length ∙ long xs zeros)) $
         -- [_4; fields' token; the last records; true; capture's token; capture; _14; …; that _4 dies; _3; …; _0; …]
         assigns ! (of-opd ! (load ! (from ! (stop !)) (look ! 24 refl))) (from ! (stop !)) (init ! 33 refl (typed r (mach r) (made r r-is))) $
         returns ! (look ! 33 refl) $ forget ! 6 refl $ forget ! 8 refl $ forget ! 10 refl $ forget ! 12 refl $ forget ! 14 refl $ forget ! 16 refl $ forget ! 18 refl $ forget ! 20 refl $ forget ! 22 refl $ forget ! 24 refl $ forget ! 27 refl $ forget ! 29 refl $ forget ! 31 refl $ forget ! 33 refl $

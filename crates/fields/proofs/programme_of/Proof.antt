@@ -12,7 +12,7 @@ use mir.Syntax.{w32}
 use mir.Val.{toZ, ofZ}
 use mir.ValLaws.{toZ-ofZ}
 use Rattle.signed.specs.Level.{clampZ}
-use Rattle.signed.specs.Sign.{clamp-le}
+use Rattle.signed.proofs.Sign.{clamp-le}
 use Rattle.fields.specs.Fields.{programmeOf}
 use Rattle.fields.proofs.programme_of.Statement.{statement}
 use Rattle.fields.proofs.programme_of.Tie as tie

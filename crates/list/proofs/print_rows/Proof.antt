@@ -1,12 +1,13 @@
--- `list::print_rows` is safe and ends: no more than 2,048 rows are printed. Assumes nothing.
+-- `list::print_rows` is safe and ends: no more rows are printed than are lent. Assumes nothing.
 use Prim.Native.Nat.{_≤_, _-_}
 use native.Mathlib.Omega.{arith}
 use borrow.Author.Needs.{needs}
+use Rattle.list.specs.Lent.{rowsLent}
 use Rattle.list.proofs.print_rows.Statement.{statement}
 use Rattle.list.proofs.print_rows.Tie as tie
 
 abbrev Inv-loop : tie.InvT-loop
-Inv-loop rows count row₀ row-end row = (row ≤ row-end) × (row-end ≤ 2048)
+Inv-loop rows count row₀ row-end row = (row ≤ row-end) × (row-end ≤ rowsLent)
 
 abbrev μ-loop : tie.MeasureT-loop
 μ-loop rows count row₀ row-end row = row-end - row

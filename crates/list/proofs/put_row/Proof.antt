@@ -1,14 +1,15 @@
--- `list::put_row` is safe and ends: a row's eight numbers lie within the rows. Assumes nothing.
+-- `list::put_row` is safe and ends: a row's numbers lie within the rows. Assumes nothing.
 use Prim.Native.Nat.{_≤_, _-_}
 use borrow.Author.Needs.{needs}
+use Rattle.syntax.specs.Numbers.{rowWidth}
 use Rattle.list.proofs.put_row.Statement.{statement}
 use Rattle.list.proofs.put_row.Tie as tie
 
 abbrev Inv-loop : tie.InvT-loop
-Inv-loop line₀ rows row at₀ i₀ line at i = i ≤ 8
+Inv-loop line₀ rows row at₀ i₀ line at i = i ≤ rowWidth
 
 abbrev μ-loop : tie.MeasureT-loop
-μ-loop line₀ rows row at₀ i₀ line at i = 8 - i
+μ-loop line₀ rows row at₀ i₀ line at i = rowWidth - i
 
 pub put-row-spec : {M : Type 1} → statement M
 put-row-spec =

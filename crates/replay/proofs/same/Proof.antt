@@ -1,14 +1,15 @@
--- `replay::same` is safe and ends: 24 numbers are compared. Assumes nothing.
+-- `replay::same` is safe and ends: each number is compared once. Assumes nothing.
 use Prim.Native.Nat.{_≤_, _-_}
 use borrow.Author.Needs.{needs}
+use Rattle.ferrysprig.specs.Numbers.{answerWidth}
 use Rattle.replay.proofs.same.Statement.{statement}
 use Rattle.replay.proofs.same.Tie as tie
 
 abbrev Inv-loop : tie.InvT-loop
-Inv-loop answer said i₀ i = i ≤ 24
+Inv-loop answer said i₀ i = i ≤ answerWidth
 
 abbrev μ-loop : tie.MeasureT-loop
-μ-loop answer said i₀ i = 24 - i
+μ-loop answer said i₀ i = answerWidth - i
 
 pub same-spec : {M : Type 1} → statement M
 same-spec =

@@ -4,7 +4,8 @@ use Prim.Native.Nat.{_+_, _-_, _*_, _/_, _≤_, min}
 use native.Mathlib.Omega.{arith}
 use borrow.Author.Needs.{needs}
 use lib.ListN.{length, drop}
-use Rattle.rows.specs.Look.{rowWidth, first}
+use Rattle.syntax.specs.Numbers.{rowWidth}
+use Rattle.rows.specs.Look.{first}
 use Rattle.rows.proofs.Look.{is-number, its-bits, at-start, stop-at, go-on, ended}
 use Rattle.rows.proofs.first.Statement.{statement}
 use Rattle.rows.proofs.first.Tie as tie

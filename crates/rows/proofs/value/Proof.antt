@@ -8,7 +8,8 @@ use lib.IntN.{ℤ, pos}
 use lib.ListN.{length, getD}
 use mir.Facts.{toZ-ofZ}
 use mir.Syntax.{w32}
-use Rattle.rows.specs.Look.{rowWidth, valueColumn, first}
+use Rattle.syntax.specs.Numbers.{rowWidth}
+use Rattle.rows.specs.Look.{valueColumn, first}
 use Rattle.rows.proofs.Look.{whole, value-found, value-none}
 use Rattle.rows.proofs.value.Statement.{statement}
 use Rattle.rows.proofs.value.Tie as tie

@@ -1,11 +1,7 @@
 -- `tables::floor` meets its contract: the table is the definition's, and past its end both have 0. Assumes nothing.
-use mathlib.Core.Path.{_≡_}
 use borrow.Author.Needs.{needs}
-use lib.IntN.{ℤ, pos}
-use lib.ListN.{getD, List·getD-eq-default}
-use mir.Syntax.{w32}
-use mir.Val.{toZ, ofZ}
-use Rattle.signed.specs.Bound.{back-32, below-is, below-lit, below-more}
+use lib.ListN.{List·getD-eq-default}
+use Rattle.signed.proofs.Bounds.{back-32, below-is, below-lit, below-more}
 use Rattle.tables.specs.Tables.{floors, floor}
 use Rattle.tables.proofs.Rules.{near-at}
 use Rattle.tables.proofs.floor.Statement.{statement}

@@ -4,12 +4,11 @@ use mathlib.Core.Bool.{Bool, true, false, _&&_}
 use mathlib.Core.List.{List, [], _∷_}
 use mathlib.Core.Path.{_≡_, _∙_, refl, ap}
 use Prim.Native.Nat.{ℕ, zero, suc, _*_}
-use native.Mathlib.Omega.{arith}
 use borrow.Author.Needs.{needs}
 use lib.Dec.{T, eqb, eqb→eq}
 use lib.ListN.{getD}
 use Rattle.tables.specs.Tables.{frameBytes, words48, words32}
-use Rattle.tables.proofs.Rules.{both-left, both-right}
+use store.Enc.{and-l, and-r}
 use Rattle.tables.proofs.frame_bytes.Statement.{statement}
 use Rattle.tables.proofs.frame_bytes.Tie as tie
 
@@ -24,8 +23,8 @@ thirds-at : (xs ys : List ℕ) → T (thirds xs ys) → (k : ℕ) → 3 * getD x
 thirds-at [] [] t k = refl
 thirds-at [] (y ∷ ys) t k = absurd t
 thirds-at (x ∷ xs) [] t k = absurd t
-thirds-at (x ∷ xs) (y ∷ ys) t zero = eqb→eq (3 * x) (2 * y) (both-left (eqb (3 * x) (2 * y)) (thirds xs ys) t)
-thirds-at (x ∷ xs) (y ∷ ys) t (suc k) = thirds-at xs ys (both-right (eqb (3 * x) (2 * y)) (thirds xs ys) t) k
+thirds-at (x ∷ xs) (y ∷ ys) t zero = eqb→eq (3 * x) (2 * y) (and-l (eqb (3 * x) (2 * y)) (thirds xs ys) t)
+thirds-at (x ∷ xs) (y ∷ ys) t (suc k) = thirds-at xs ys (and-r (eqb (3 * x) (2 * y)) (thirds xs ys) t) k
 
 at-32 : (k : ℕ) → 3 * getD words48 k 0 ≡ 2 * getD words32 k 0
 unfolding words48 words32

@@ -3,7 +3,7 @@ use Prim.Native.Nat.{_-_, _≤_}
 use native.Mathlib.Omega.{arith}
 use borrow.Author.Needs.{needs}
 use Rattle.syntax.proofs.Sequence.{Turns, begins, turn, ends, leaves, then, finished, stopped, standing}
-use Rattle.blocks.specs.Sound.{SoundExps}
+use Rattle.slots.specs.Sound.{SoundExps}
 use Rattle.mantissas.specs.Kept.{Kept}
 use Rattle.mantissas.proofs.Kept.{kept-none}
 use Rattle.ac3.specs.AudioBlock.{audioBlock}

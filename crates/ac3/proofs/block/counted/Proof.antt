@@ -1,8 +1,15 @@
--- `ac3::block::counted` meets its contract: the tests say which of the three it is. Assumes nothing.
-use borrow.Author.Tests.{eq-eqb, ne-eqb}
+-- `ac3::block::counted` meets its contract: each number is what the definition says. Assumes nothing.
+use native.Mathlib.Omega.{arith}
+use mathlib.Core.Bool.{Bool, true, false, cond}
+use mathlib.Core.Path.{refl}
+use Prim.Native.Nat.{ℕ, _+_, _≤_}
 use borrow.Author.Needs.{needs}
 use Rattle.ac3.proofs.block.counted.Statement.{statement}
 use Rattle.ac3.proofs.block.counted.Tie as tie
+
+one-more : (b : Bool) (n k : ℕ) → n ≤ k → cond b (n + 1) n ≤ k + 1
+one-more true n k h = omega arith
+one-more false n k h = omega arith
 
 pub counted-spec : {M : Type 1} → statement M
 counted-spec =
@@ -12,7 +19,11 @@ counted-spec =
     (λ c. search needs)  -- array-write-starts
     (λ c. search needs)  -- mul-mantissa-starts
     (λ c. search needs)  -- array-write-mantissa-starts
-    (λ c. search needs)  -- add-t22
-    (λ c. (rw (c .before .before .if1 .taken, eq-eqb _ 0 (c .if2 .taken), c .if2 .taken), search needs))  -- returns
-    (λ c. (rw (c .before .before .before .if1 .taken, ne-eqb _ 0 (c .before .if2 .left)), search needs))  -- returns-2
-    (λ c. (rw (c .if1 .left), search needs)))  -- returns-3
+    (λ c κs. omega (arith, c .before .before .pre))  -- one-more-if-requires
+    (λ c κs. tt)  -- is-first-requires
+    (λ c κs. tt)  -- sent-so-far-requires
+    (λ c.
+    let f = c .before in
+    let m = f .before in
+    let start = m .before .before .before in
+    rw (c .sent-so-far .ensures, f .is-first .ensures, m .one-more-if .ensures) (refl, one-more (start .args .cplinu) (start .args .t .coupled) (start .args .blk) (start .pre .1))))  -- returns

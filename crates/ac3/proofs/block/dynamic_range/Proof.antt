@@ -12,20 +12,20 @@ reads c =
     let t3 = t4 .before .before in
     let t2 = t3 .before .before in
     let t1 = t2 .before .before in
-    then _ (rw (t1 .roled .ensures) at (t2 .flag .ensures))
-    (rw (t3 .roled2 .ensures) at (t4 .note-when .ensures))
+    then _ (rw (t1 .one-roled .ensures) at (t2 .flag .ensures))
+    (rw (t3 .one-roled2 .ensures) at (t4 .note-if .ensures))
 
 pub dynamic-range-spec : {M : Type 1} → statement M
 dynamic-range-spec =
     tie.close
     (tie.spec
-    (λ c. search needs)  -- mul-roled
-    (λ c. search needs)  -- add-roled
-    (λ c κs. search needs)  -- roled-requires
+    (λ c. search needs)  -- mul-one-roled
+    (λ c. search needs)  -- add-one-roled
+    (λ c κs. search needs)  -- one-roled-requires
     (λ c κs. search needs)  -- flag-requires
-    (λ c. search needs)  -- mul-roled-2
-    (λ c. search needs)  -- add-roled-2
-    (λ c κs. search needs)  -- roled-requires-2
-    (λ c κs. search needs)  -- note-when-requires
+    (λ c. search needs)  -- mul-one-roled-2
+    (λ c. search needs)  -- add-one-roled-2
+    (λ c κs. search needs)  -- one-roled-requires-2
+    (λ c κs. search needs)  -- note-if-requires
     (λ c. reads c .long)  -- same-length
     reads)

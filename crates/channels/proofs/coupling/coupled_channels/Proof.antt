@@ -20,8 +20,8 @@ abbrev μ-loop : tie.MeasureT-loop
 again : tie.Need-loop-again Inv-loop μ-loop
 again c =
     let t = c .before .before in
-    let test = t .before .before in
-    turn (test .before .loop .inv) (test .loop-test .taken) (then _ (t .flag-nth .ensures) finished)
+    let test = t .before .before .before in
+    turn (test .before .loop .inv) (test .loop-test .taken) (then _ (rw (t .before .nth .ensures) at (t .flag .ensures)) finished)
 
 reads : tie.Need-returns Inv-loop μ-loop
 unfolding coupledChannels
@@ -34,7 +34,8 @@ coupled-channels-spec =
     Inv-loop
     μ-loop
     (λ c. begins)  -- loop-holds
-    (λ c κs. search needs)  -- flag-nth-requires
+    (λ c κs. tt)  -- nth-requires
+    (λ c κs. search needs)  -- flag-requires
     (λ c. search needs)  -- cast-set
     (λ c. search needs)  -- array-write-set
     (λ c. search needs)  -- add-ch

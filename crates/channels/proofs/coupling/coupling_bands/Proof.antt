@@ -19,11 +19,11 @@ again : tie.Need-loop-again Inv-loop μ-loop
 unfolding joined
 again c =
     let t1 = c .before .before .before in
-    let test = t1 .before .before in
+    let test = t1 .before .before .before in
     let inv = test .before .loop .inv in
     ⊎-elim
-    (λ w. rw (w .1) (turn (inv .0) (test .loop-test .taken) (then _ (t1 .flag-nth .ensures) (rw (w .0 .taken) finished)), omega arith, omega arith))
-    (λ w. rw (w .1) (turn (inv .0) (test .loop-test .taken) (then _ (t1 .flag-nth .ensures) (rw (w .0 .left) finished)), omega arith, omega arith))
+    (λ w. rw (w .1) (turn (inv .0) (test .loop-test .taken) (then _ (rw (t1 .before .nth .ensures) at (t1 .flag .ensures)) (rw (w .0 .taken) finished)), omega arith, omega arith))
+    (λ w. rw (w .1) (turn (inv .0) (test .loop-test .taken) (then _ (rw (t1 .before .nth .ensures) at (t1 .flag .ensures)) (rw (w .0 .left) finished)), omega arith, omega arith))
     (c .before .if1 .came)
 
 reads : tie.Need-returns Inv-loop μ-loop
@@ -38,7 +38,8 @@ coupling-bands-spec =
     μ-loop
     (λ c. (begins, omega arith, omega arith))  -- loop-holds
     (λ c. search needs)  -- cast-flag-nth
-    (λ c κs. search needs)  -- flag-nth-requires
+    (λ c κs. tt)  -- nth-requires
+    (λ c κs. search needs)  -- flag-requires
     (λ c. search needs)  -- sub-bands
     (λ c. search needs)  -- add-bnd
     (λ c. search needs)  -- loop-less

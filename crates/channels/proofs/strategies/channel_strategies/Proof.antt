@@ -6,9 +6,9 @@ use borrow.Author.Needs.{needs}
 use Rattle.syntax.specs.Grammar.{take, nth, filling}
 use Rattle.syntax.specs.Names as Name
 use Rattle.syntax.proofs.Sequence.{Turns, begins, turn, ends, then, finished}
-use Rattle.blocks.specs.Sound.{Entries}
+use Rattle.slots.specs.Sound.{Entries}
+use Rattle.slots.proofs.Entries.{zeros-below, set-below}
 use Rattle.channels.specs.Strategies.{channelStrategies}
-use Rattle.channels.proofs.Bounds.{zeros, stored}
 use Rattle.channels.proofs.strategies.channel_strategies.Statement.{statement}
 use Rattle.channels.proofs.strategies.channel_strategies.Tie as tie
 
@@ -22,9 +22,9 @@ abbrev μ-loop : tie.MeasureT-loop
 again : tie.Need-loop-again Inv-loop μ-loop
 again c =
     let t1 = c .before .before .before in
-    let test = t1 .before .before in
+    let test = t1 .before .before .before in
     let at = test .before .loop in
-    (turn (at .inv .0) (test .loop-test .taken) (then _ (t1 .take-nth .ensures .0) finished), stored (at .codes) (at .ch) _ (at .inv .1) (t1 .take-nth .ensures .1))
+    (turn (at .inv .0) (test .loop-test .taken) (then _ (rw (t1 .before .nth .ensures) at (t1 .take .ensures .0)) finished), set-below (at .codes) (at .inv .1) (at .ch) _ (t1 .take .ensures .1))
 
 reads : tie.Need-returns Inv-loop μ-loop
 unfolding channelStrategies
@@ -36,8 +36,9 @@ channel-strategies-spec =
     (tie.spec
     Inv-loop
     μ-loop
-    (λ c. (begins, zeros 5 (omega arith)))  -- loop-holds
-    (λ c κs. search needs)  -- take-nth-requires
+    (λ c. (begins, zeros-below 5 (omega arith)))  -- loop-holds
+    (λ c κs. tt)  -- nth-requires
+    (λ c κs. search needs)  -- take-requires
     (λ c. search needs)  -- cast-codes
     (λ c. search needs)  -- cast-codes-2
     (λ c. search needs)  -- array-write-codes

@@ -8,7 +8,7 @@ pub flag-if-spec : {M : Type 1} → statement M
 flag-if-spec =
     tie.close
     (tie.spec
-    (λ c κs. search needs)  -- flag-nth-requires
+    (λ c κs. search needs)  -- flag-requires
     (λ c. search needs)  -- same-length
-    (λ c. let t = c .before in rw (t .before .before .if1 .taken) (t .flag-nth .ensures))  -- returns
+    (λ c. let t = c .before in rw (t .before .before .if1 .taken) (t .flag .ensures))  -- returns
     (λ c. rw (c .if1 .left) finished))  -- returns-2

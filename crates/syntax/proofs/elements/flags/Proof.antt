@@ -15,8 +15,8 @@ abbrev μ-loop : tie.MeasureT-loop
 again : tie.Need-loop-again Inv-loop μ-loop
 again c =
     let t = c .before in
-    let test = t .before .before in
-    turn (test .before .loop .inv) (test .loop-test .taken) (t .note-nth .ensures)
+    let test = t .before .before .before in
+    turn (test .before .loop .inv) (test .loop-test .taken) (rw (t .before .nth .ensures) at (t .note .ensures))
 
 reads : tie.Need-returns Inv-loop μ-loop
 reads c = ends (c .before .loop .inv) (c .loop-test .left)
@@ -28,7 +28,8 @@ flags-spec =
     Inv-loop
     μ-loop
     (λ c. begins)  -- loop-holds
-    (λ c κs. search needs)  -- note-nth-requires
+    (λ c κs. tt)  -- nth-requires
+    (λ c κs. search needs)  -- note-requires
     (λ c. search needs)  -- add-i
     (λ c. search needs)  -- loop-less
     again

@@ -9,7 +9,7 @@ pub take-if-spec : {M : Type 1} → statement M
 take-if-spec =
     tie.close
     (tie.spec
-    (λ c κs. search needs)  -- take-nth-requires
+    (λ c κs. search needs)  -- take-requires
     (λ c. search needs)  -- same-length
-    (λ c. let t = c .before in rw (t .before .before .if1 .taken) (t .take-nth .ensures))  -- returns
+    (λ c. let t = c .before in rw (t .before .before .if1 .taken) (t .take .ensures))  -- returns
     (λ c. (rw (c .if1 .left) finished, pow-pos _)))  -- returns-2

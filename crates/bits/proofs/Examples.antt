@@ -1,0 +1,9 @@
+-- Bits by computation. Assumes nothing.
+use mathlib.Core.List.{[], _∷_}
+use mathlib.Core.Path.{_≡_, refl}
+use Rattle.bits.specs.Bits.{bitAt, bitsBefore}
+
+-- the bits of 0B 77
+bits-of-the-sync-word : bitsBefore (0x0B ∷ 0x77 ∷ []) 16 ≡ 0 ∷ 0 ∷ 0 ∷ 0 ∷ 1 ∷ 0 ∷ 1 ∷ 1 ∷ 0 ∷ 1 ∷ 1 ∷ 1 ∷ 0 ∷ 1 ∷ 1 ∷ 1 ∷ []
+unfolding bitsBefore bitAt
+bits-of-the-sync-word = refl

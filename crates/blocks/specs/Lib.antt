@@ -1,5 +1,0 @@
-pub mod Slots
-pub mod Parameters
-pub mod Delta
-pub mod Forgotten
-pub mod Sound

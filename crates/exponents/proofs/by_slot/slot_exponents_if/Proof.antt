@@ -1,0 +1,15 @@
+-- `exponents::by_slot::slot_exponents_if` meets its contract: the test says which of the two `readIf` is. Assumes nothing.
+use borrow.Author.Needs.{needs}
+use Rattle.syntax.proofs.Sequence.{finished}
+use Rattle.exponents.proofs.Kept.{all}
+use Rattle.exponents.proofs.by_slot.slot_exponents_if.Statement.{statement}
+use Rattle.exponents.proofs.by_slot.slot_exponents_if.Tie as tie
+
+pub slot-exponents-if-spec : {M : Type 1} → statement M
+slot-exponents-if-spec =
+    tie.close
+    (tie.spec
+    (λ c κs. search needs)  -- slot-exponents-requires
+    (λ c. search needs)  -- same-length
+    (λ c. let t = c .before in rw (t .before .before .before .if1 .taken) (t .slot-exponents .ensures))  -- returns
+    (λ c. (rw (c .if1 .left) finished, (c .before .before .pre .1 .1, all))))  -- returns-2

@@ -1,0 +1,59 @@
+//! How rows and answers are laid out as numbers (docs/FORMAT.md): how many there are, and which stands where. No other file of
+//! the judge says it.
+
+use crate::names::{number, role_numbers};
+use crate::syntax::Field;
+
+/// The numbers of a row.
+pub const ROW: usize = 8;
+
+/// Which number of a row is which.
+pub mod row_at {
+    pub const NAME: usize = 0;
+    pub const ROLE: usize = 1;
+    pub const PROGRAMME: usize = 2;
+    pub const BLOCK: usize = 3;
+    pub const INDEX: usize = 4;
+    pub const POS: usize = 5;
+    pub const WIDTH: usize = 6;
+    pub const VALUE: usize = 7;
+}
+
+/// A field as a row.
+pub fn row(field: &Field) -> [i32; ROW] {
+    let mut row = [0; ROW];
+    row[row_at::NAME] = number(field.name);
+    (row[row_at::ROLE], row[row_at::PROGRAMME]) = role_numbers(field.role);
+    row[row_at::BLOCK] = field.block.into();
+    row[row_at::INDEX] = field.index.into();
+    row[row_at::POS] = field.pos as i32;
+    row[row_at::WIDTH] = field.width as i32;
+    row[row_at::VALUE] = field.value as i32;
+    row
+}
+
+/// The numbers of an answer.
+pub const ANSWER: usize = 24;
+
+/// Which number of an answer is which.
+pub mod answer_at {
+    pub const REFUSAL: usize = 0;
+    pub const ROWS: usize = 1;
+    pub const BIT: usize = 2;
+    /// From here on the numbers are an accepted frame's summary, all 0 on a refusal. The first is the row count again.
+    pub const SUMMARY: usize = 3;
+    pub const BYTES: usize = 4;
+    pub const AUDIO_END: usize = 5;
+    pub const BSID: usize = 6;
+    pub const ACMOD: usize = 7;
+    pub const LFEON: usize = 8;
+    pub const FSCOD: usize = 9;
+    pub const CPL_BLOCKS: usize = 10;
+    /// One for each block, as the mantissas'.
+    pub const BLOCK_STARTS: usize = 11;
+    pub const MANTISSA_STARTS: usize = 17;
+    pub const COORDINATES_SENT: usize = 23;
+}
+
+/// An answer about a burst: its numbers are refusal, rows of the parse, bytes written.
+pub type BurstAnswer = [i32; 3];

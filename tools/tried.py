@@ -25,16 +25,17 @@ def checksum(rows):
 
 
 def expected(answer, data, room):
-    """What the Rust answers: rows, bit, checksum, refusal; and for an accepted frame the rest of its summary."""
+    """What the Rust answers: rows, bit, checksum, refusal; and for an accepted frame the rest of its summary, for a refusal name and block of
+    what did not fit, no block being 255 in the definition."""
     run = subprocess.run([answer, "--rows", room, "--summary"], input=data, capture_output=True, check=True)
     *lines, last, summary = run.stdout.decode().splitlines()
     rows = [[int(n) for n in line.split()] for line in lines]
     word, *numbers = last.split()
     summary = [int(n) for n in summary.split()[1:]]
     if word == "refused":
-        number, count, bit = map(int, numbers)
+        number, count, bit, name, block = map(int, numbers)
         assert not any(summary), "a refusal's summary is all zeros"
-        return [count, bit, checksum(rows), number]
+        return [count, bit, checksum(rows), number, name, block if block >= 0 else 255]
     count, size, bit, *rest = summary
     return [count, bit, checksum(rows), 0, size] + rest
 

@@ -199,11 +199,35 @@ refusal-5 =
     bytes 64 0x0b777e84014c258cfeb5006d24a576a840b3840397b5a675282aa60651abc79ef8ed034f4d912e19d7301f4f67b1c14267f320afa4e2310c3041905bcc102c35
     ++ bytes 64 0xdadb297b52d47a6d05ac3174979087fa5050310988800002010080043433b78ff4258a3845315bd5590f822e02c01872b0ef312da050010100d68cf027f91606
 
--- a skip field past the frame
-abbrev refusal-6 : List ℕ
-refusal-6 =
+-- block 0's skip field past the frame
+abbrev refusal-6-skip : List ℕ
+refusal-6-skip =
     bytes 64 0x0b7758d701462c042b0255e987286b075120756c828102dcaad2c454578a7b52540080648a8d4456a514d07d5225eb382aff8ae4ad55294b08df3ecbe8ba784f
     ++ bytes 64 0x60fdd829b4281db8f56213709312c5f611b00b2f82281bc319ca4a7c231ac67e200a22d9c0451e0c1c784034fa7a4e5b06ae2f46000ecc6d12f5be2857b0147f
+
+-- a field of block 0 past the frame: a group of exponents
+abbrev refusal-6-field : List ℕ
+refusal-6-field =
+    bytes 64 0x0b77000000400040201000804020080010003f800000000000000000000000000000000000000000000000000000000000000000000000000000000000000000
+    ++ bytes 64 0x00000000000000000000000000000000000000012f9e03e7cf9f3e7cf9f3e7cf9f3e7cf9f3e7cf9f3e7cf9f3e7cf9f3e7cf9f3e7cf9f3e7cf9f3e7cf9f3e7cf8
+
+-- block 4 ends with the frame: block 5's first field
+abbrev refusal-6-block-5 : List ℕ
+refusal-6-block-5 =
+    bytes 64 0x0b770000004020000b241f3e7cf9f3e7cf9f10010002640000000000000000000000000000000000000000000000000000000000000000000000000000000000
+    ++ bytes 64 0x00000000000000000000000000000000000000000000000000000000000000000000000000000000000000000000000000000000000000000000000000000000
+
+-- block 5's skip field past the frame
+abbrev refusal-6-skip-5 : List ℕ
+refusal-6-skip-5 =
+    bytes 64 0x0b770000004020000b001f3e7cf9f3e20020000000000000001ff800000000000000000000000000000000000000000000000000000000000000000000000000
+    ++ bytes 64 0x00000000000000000000000000000000000000000000000000000000000000000000000000000000000000000000000000000000000000000000000000000000
+
+-- block 5's mantissas past the frame
+abbrev refusal-6-walk-5 : List ℕ
+refusal-6-walk-5 =
+    bytes 64 0x0b770000004020000b001f3e7cf9f3e20020070000000000007f0e00000000000000000000000000000000000000000000000000000000000000000000000000
+    ++ bytes 64 0x00000000000000000000000000000000000000000000000000000000000000000000000000000000000000000000000000000000000000000000000000000000
 
 -- a mantissa past the frame
 abbrev refusal-6-walk : List ℕ
@@ -366,7 +390,11 @@ refused :
     × (listing 2048 refusal-2 ≡ 1 ∷ 16 ∷ 352286885166436349 ∷ 2 ∷ 0 ∷ 0 ∷ [])
     × (listing 2048 refusal-4 ≡ 4 ∷ 40 ∷ 40781722323852877 ∷ 4 ∷ 0 ∷ 0 ∷ [])
     × (listing 2048 refusal-5 ≡ 5 ∷ 45 ∷ 1373352214628650087 ∷ 5 ∷ 0 ∷ 0 ∷ [])
-    × (listing 2048 refusal-6 ≡ 45 ∷ 163 ∷ 2287202142014331790 ∷ 6 ∷ 110 ∷ 1 ∷ [])
+    × (listing 2048 refusal-6-skip ≡ 45 ∷ 163 ∷ 2287202142014331790 ∷ 6 ∷ 110 ∷ 1 ∷ [])
+    × (listing 2048 refusal-6-field ≡ 93 ∷ 1022 ∷ 1793998605553555400 ∷ 6 ∷ 76 ∷ 1 ∷ [])
+    × (listing 2048 refusal-6-block-5 ≡ 90 ∷ 1024 ∷ 2167868889333793135 ∷ 6 ∷ 49 ∷ 6 ∷ [])
+    × (listing 2048 refusal-6-skip-5 ≡ 95 ∷ 213 ∷ 2009555243386366642 ∷ 6 ∷ 110 ∷ 6 ∷ [])
+    × (listing 2048 refusal-6-walk-5 ≡ 97 ∷ 1017 ∷ 27516514050212150 ∷ 6 ∷ 111 ∷ 6 ∷ [])
     × (listing 2048 refusal-6-walk ≡ 45 ∷ 1019 ∷ 772336669383944041 ∷ 6 ∷ 111 ∷ 1 ∷ [])
     × (listing 2048 refusal-6-coupled ≡ 91 ∷ 1023 ∷ 406237143950309278 ∷ 6 ∷ 111 ∷ 1 ∷ [])
     × (listing 2048 refusal-6-late ≡ 101 ∷ 1024 ∷ 2113091840523649115 ∷ 6 ∷ 109 ∷ 6 ∷ [])
@@ -390,4 +418,4 @@ refused :
     × (listing 2048 refusal-22 ≡ 33 ∷ 127 ∷ 2175148581457006551 ∷ 22 ∷ 0 ∷ 0 ∷ [])
     × (listing 2048 refusal-23 ≡ 40 ∷ 146 ∷ 220526504281723518 ∷ 23 ∷ 0 ∷ 0 ∷ [])
 unfolding bitAt value bitsBefore sameBits rangeEq _>>=_ turns shown except exec andThen flatten landing finish roomCheck check sum unless run continue nfchans words48 words44 words32 frameBytes slowDecay fastDecay slowGain knee floor fastGain bandEnd logAdd hearing bap bapBits from placed snrOffset psdOf mappedPsd logadd bandSum bandOf startOf endOf bandPsd integratedPsd lowcomp lowAfter rises startLeak fallTo fallBy fallLeak leakStep excitations excitation overKnee maskOf maskingCurve deltaOf passed deltaIn deltaSum deltaApplied kept threshold thresholds addressOf bapOf Allocation-pointers allocation deltaCode channelCode segment newDeltas slotDeltas codedDeltas deltas newCurve curve fineOffset channelOffset newOffsets offsets newLeak couplingLeak step unpack group exponentSet slotExponents channelExponents exponents silent Mantissas-pointers allPointers widths mantissas channelParts parts syncinfo programmeInfo alternateInfo timeCodes additionalInfo bsi header howMany coupledChannels joined couplingBands newCoupling couplingStrategy coordinate channelCoordinates phaseFlags couplingCoordinates rematrixing channelStrategies exponentStrategies bandwidth bandwidths channelEnd channelEnds channelFlags dynamicRange channelSettings couplingSection exponentSection skipField allocState allSent audioBlock audio syncframe answered bytes plusOne checksum verdict short
-refused = (refl, refl, refl, refl, refl, refl, refl, refl, refl, refl, refl, refl, refl, refl, refl, refl, refl, refl, refl, refl, refl, refl, refl, refl, refl, refl, refl, refl)
+refused = (refl, refl, refl, refl, refl, refl, refl, refl, refl, refl, refl, refl, refl, refl, refl, refl, refl, refl, refl, refl, refl, refl, refl, refl, refl, refl, refl, refl, refl, refl, refl, refl)

@@ -40,10 +40,16 @@ fn the_example() {
     assert_eq!(refusal.unfit, None);
 }
 
-/// The frame of a corner case, and what parsing it answers.
+/// How a frame of judge/corners.txt is refused.
 fn corner(name: &str) -> Refusal {
-    let corner = judge::corners::all().into_iter().find(|c| c.name == name);
-    parse(&corner.expect(name).capture).unwrap_err()
+    let list = files::text("judge/corners.txt");
+    let (_, entry) = list.split_once(&format!("\n{name}: ")).expect(name);
+    let input = entry.lines().nth(1).unwrap();
+    let (digits, length) = input.split_once(" (").unwrap();
+    let digits = digits.trim_end_matches(" and zeros");
+    let mut frame = judge::hex::bytes(digits);
+    frame.resize(length.strip_suffix(" bytes)").unwrap().parse().unwrap(), 0);
+    parse(&frame).unwrap_err()
 }
 
 #[test]

@@ -47,24 +47,27 @@ enum {
 };
 #define FERRYSPRIG_ROW_NUMBERS 8
 
-/* The numbers of an answer. From FERRYSPRIG_ANSWER_SUMMARY on they are the summary of an accepted frame, and 0 on a refusal; yes is 1. */
+/* The numbers of an answer. From FERRYSPRIG_ANSWER_SUMMARY to FERRYSPRIG_ANSWER_COORDINATES_SENT they are the summary of an accepted frame,
+   and 0 on a refusal; yes is 1. */
 enum {
-    FERRYSPRIG_ANSWER_REFUSAL = 0,          /* 0: accepted; else 1 to 20, see FERRYSPRIG_MEANINGS */
-    FERRYSPRIG_ANSWER_ROWS = 1,             /* how many rows were written, on a refusal too */
-    FERRYSPRIG_ANSWER_BIT = 2,              /* the first bit not yet read; audio_end if accepted */
-    FERRYSPRIG_ANSWER_SUMMARY = 3,          /* how many rows an accepted frame has: number 1 again */
-    FERRYSPRIG_ANSWER_BYTES = 4,            /* the frame's length: the next frame starts so many bytes on */
-    FERRYSPRIG_ANSWER_AUDIO_END = 5,        /* the first bit after the last block's mantissas: the frame's tail (auxiliary data, crc2) */
+    FERRYSPRIG_ANSWER_REFUSAL = 0,           /* 0: accepted; else 1 to 23, see FERRYSPRIG_MEANINGS */
+    FERRYSPRIG_ANSWER_ROWS = 1,              /* how many rows were written, on a refusal too */
+    FERRYSPRIG_ANSWER_BIT = 2,               /* the first bit not yet read; audio_end if accepted */
+    FERRYSPRIG_ANSWER_SUMMARY = 3,           /* how many rows an accepted frame has: number 1 again */
+    FERRYSPRIG_ANSWER_BYTES = 4,             /* the frame's length: the next frame starts so many bytes on */
+    FERRYSPRIG_ANSWER_AUDIO_END = 5,         /* the first bit after the last block's mantissas: the frame's tail (auxiliary data, crc2) */
     FERRYSPRIG_ANSWER_BSID = 6,
     FERRYSPRIG_ANSWER_ACMOD = 7,
     FERRYSPRIG_ANSWER_LFEON = 8,
     FERRYSPRIG_ANSWER_FSCOD = 9,
-    FERRYSPRIG_ANSWER_CPL_BLOCKS = 10,      /* how many blocks use coupling */
-    FERRYSPRIG_ANSWER_BLOCK_STARTS = 11,    /* 11 to 16: the bits at which the six blocks start */
-    FERRYSPRIG_ANSWER_MANTISSA_STARTS = 17, /* 17 to 22: the bits at which their mantissas start */
-    FERRYSPRIG_ANSWER_COORDINATES_SENT = 23 /* whether all coupled channels sent theirs in the first block with coupling; yes if none is */
+    FERRYSPRIG_ANSWER_CPL_BLOCKS = 10,       /* how many blocks use coupling */
+    FERRYSPRIG_ANSWER_BLOCK_STARTS = 11,     /* 11 to 16: the bits at which the six blocks start */
+    FERRYSPRIG_ANSWER_MANTISSA_STARTS = 17,  /* 17 to 22: the bits at which their mantissas start */
+    FERRYSPRIG_ANSWER_COORDINATES_SENT = 23, /* whether all coupled channels sent theirs in the first coupled block; yes if there is none */
+    FERRYSPRIG_ANSWER_NAME = 24,             /* at refusal 6 the name of the field, span or mantissas that did not fit the frame; else 0 */
+    FERRYSPRIG_ANSWER_BLOCK = 25             /* and its block, -1 in the header; else -1 */
 };
-#define FERRYSPRIG_ANSWER_NUMBERS 24
+#define FERRYSPRIG_ANSWER_NUMBERS 26
 
 /* The roles that rows have. (Numbers 3, 4 and 16 to 20 of the original's belong to the frame's tail and to E-AC-3.) */
 enum {
@@ -110,7 +113,7 @@ enum {
     /* 111 */ "mantissas" \
 }
 
-/* What each refusal means: 1 to 20 of a frame, 28 and 30 to 34 of a burst. (No others are given.) */
+/* What each refusal means: 1 to 23 of a frame, 28 and 30 to 34 of a burst. (No others are given.) */
 #define FERRYSPRIG_MEANINGS { \
     /*  0 */ "accepted", \
     /*  1 */ "the input has fewer than 6 bytes", \
@@ -120,7 +123,7 @@ enum {
     /*  5 */ "bsid is above 8", \
     /*  6 */ "a field, span or mantissa would end past the frame", \
     /*  7 */ "no row is left", \
-    /*  8 */ "block 0 has cplstre, rematstr, baie or snroffste 0", \
+    /*  8 */ "block 0 has cplstre 0", \
     /*  9 */ "cplbegf is above cplendf + 2", \
     /* 10 */ "coupling with fewer than two channels", \
     /* 11 */ "chbwcod is above 60", \
@@ -133,7 +136,10 @@ enum {
     /* 18 */ "cpldeltbae or deltbae is 0 in block 0", \
     /* 19 */ "cpldeltbae or deltbae is 3", \
     /* 20 */ "the coupling leak is needed, but was never sent", \
-    /* 21 */ "", "", "", "", "", "", "", \
+    /* 21 */ "block 0 has rematstr 0", \
+    /* 22 */ "block 0 has baie 0", \
+    /* 23 */ "block 0 has snroffste 0", \
+    /* 24 */ "", "", "", "", \
     /* 28 */ "the output is too short", \
     /* 29 */ "", \
     /* 30 */ "the burst is not 6,144 bytes", \
@@ -151,8 +157,9 @@ enum {
    at.
 
    The rows lie end to end from bit 0; those of an accepted frame end at audio_end. On a refusal the last row has the bad value at 2, 5, 8,
-   11 and 16 to 19. At 3 it is one of the last two, fscod and frmsizecod; at 9 both of them together, cplbegf and cplendf. At 10, 12 to 15
-   and 20 the last row is not to blame, but what was sent, or never sent, before; at 1, 4, 6 and 7 input, frame or room end too early. */
+   11, 16 to 19 and 21 to 23. At 3 it is one of the last two, fscod and frmsizecod; at 9 both of them together, cplbegf and cplendf. At 10,
+   12 to 15 and 20 the last row is not to blame, but what was sent, or never sent, before; at 1, 4, 6 and 7 input, frame or room end too
+   early, and at 6 the answer's last two numbers say what did not fit. */
 void ferrysprig_parse(const uint8_t *capture, size_t capture_len, size_t place, int32_t *rows, size_t rows_len,
                       int32_t answer[FERRYSPRIG_ANSWER_NUMBERS]);
 
@@ -168,7 +175,7 @@ bool ferrysprig_range_eq(const uint8_t *x, size_t x_len, size_t a, const uint8_t
 
 /* The numbers of an answer about a burst. */
 enum {
-    FERRYSPRIG_BURST_ANSWER_REFUSAL = 0, /* 0: done; 1 to 20: the frame's own; else 28 or 30 to 34, see FERRYSPRIG_MEANINGS */
+    FERRYSPRIG_BURST_ANSWER_REFUSAL = 0, /* 0: done; 1 to 23: the frame's own; else 28 or 30 to 34, see FERRYSPRIG_MEANINGS */
     FERRYSPRIG_BURST_ANSWER_ROWS = 1,    /* how many rows were written by parsing, on a refusal too; 0 at 30 and 31, which come before it */
     FERRYSPRIG_BURST_ANSWER_WRITTEN = 2  /* how many bytes were written to the front of `out`; 0 on a refusal */
 };

@@ -37,12 +37,22 @@ static bool untouched_from(int first) {
     return true;
 }
 
-static bool refused(int32_t number, int32_t count, int32_t bit) {
-    for (int i = FERRYSPRIG_ANSWER_SUMMARY; i < FERRYSPRIG_ANSWER_NUMBERS; i++)
+/* Whether the answer tells that this did not fit. */
+static bool unfit(int32_t name, int32_t block) {
+    return answer[FERRYSPRIG_ANSWER_NAME] == name && answer[FERRYSPRIG_ANSWER_BLOCK] == block;
+}
+
+/* Whether the answer is a refusal, with no summary. */
+static bool refused_at(int32_t number, int32_t count, int32_t bit) {
+    for (int i = FERRYSPRIG_ANSWER_SUMMARY; i <= FERRYSPRIG_ANSWER_COORDINATES_SENT; i++)
         if (answer[i] != 0)
             return false;
-    return answer[FERRYSPRIG_ANSWER_REFUSAL] == number && answer[FERRYSPRIG_ANSWER_ROWS] == count && answer[FERRYSPRIG_ANSWER_BIT] == bit
-        && untouched_from(WIDTH * count);
+    return answer[FERRYSPRIG_ANSWER_REFUSAL] == number && answer[FERRYSPRIG_ANSWER_ROWS] == count && answer[FERRYSPRIG_ANSWER_BIT] == bit;
+}
+
+/* The same where nothing failed to fit, and numbers past the rows are untouched. */
+static bool refused(int32_t number, int32_t count, int32_t bit) {
+    return refused_at(number, count, bit) && unfit(0, -1) && untouched_from(WIDTH * count);
 }
 
 static void parse(size_t length, size_t place, size_t room) {
@@ -72,6 +82,49 @@ static void try_calls(void) {
     holds("one number too few for its first row", refused(7, 0, 0));
     parse(6, 0, 0);
     holds("no room", refused(7, 0, 0));
+}
+
+static int32_t room[FERRYSPRIG_MOST_ROWS * WIDTH];
+
+/* Parses a frame of 128 bytes that begins so and goes on with zeros. */
+static void parse_frame(const uint8_t *front, size_t length) {
+    static uint8_t frame[128];
+    memset(frame, 0, sizeof frame);
+    memcpy(frame, front, length);
+    mark();
+    ferrysprig_parse(frame, sizeof frame, 0, room, sizeof room / sizeof *room, answer);
+}
+
+/* Frames of judge/corners.txt. */
+static void try_frames(void) {
+    const uint8_t plain[] = {0x0B, 0x77, 0x00, 0x00, 0x00, 0x40, 0x20, 0x00, 0x0B, 0x00, 0x1F, 0x3E, 0x7C, 0xF9, 0xF3, 0xE2, 0x00, 0x20};
+    parse_frame(plain, sizeof plain);
+    holds("an accepted frame", answer[FERRYSPRIG_ANSWER_REFUSAL] == 0 && answer[FERRYSPRIG_ANSWER_ROWS] == 95
+              && answer[FERRYSPRIG_ANSWER_AUDIO_END] == 204 && unfit(0, -1));
+    const uint8_t no_cplstre[] = {0x0B, 0x77, 0x00, 0x00, 0x00, 0x40, 0x20};
+    parse_frame(no_cplstre, sizeof no_cplstre);
+    holds("no cplstre in block 0", refused_at(8, 21, 69) && unfit(0, -1));
+    const uint8_t no_rematstr[] = {0x0B, 0x77, 0x00, 0x00, 0x00, 0x40, 0x40, 0x00, 0x00, 0x80};
+    parse_frame(no_rematstr, sizeof no_rematstr);
+    holds("no rematstr in block 0", refused_at(21, 26, 75) && unfit(0, -1));
+    const uint8_t no_baie[] = {0x0B, 0x77, 0x00, 0x00, 0x00, 0x40, 0x20, 0x00, 0x0B, 0x00, 0x1F, 0x3E, 0x7C, 0xF9, 0xF3, 0xE0};
+    parse_frame(no_baie, sizeof no_baie);
+    holds("no baie in block 0", refused_at(22, 33, 127) && unfit(0, -1));
+    const uint8_t no_snroffste[] = {0x0B, 0x77, 0x00, 0x00, 0x00, 0x40, 0x20, 0x00, 0x0B, 0x00, 0x1F, 0x3E, 0x7C, 0xF9, 0xF3, 0xE2};
+    parse_frame(no_snroffste, sizeof no_snroffste);
+    holds("no snroffste in block 0", refused_at(23, 39, 139) && unfit(0, -1));
+    const uint8_t no_block_5[] = {0x0B, 0x77, 0x00, 0x00, 0x00, 0x40, 0x20, 0x00, 0x0B, 0x24, 0x1F, 0x3E, 0x7C, 0xF9, 0xF3, 0xE7, 0xCF,
+        0x9F, 0x10, 0x01, 0x00, 0x02, 0x64};
+    parse_frame(no_block_5, sizeof no_block_5);
+    holds("block 5 past the frame", refused_at(6, 90, 1024) && unfit(49, 5));
+    const uint8_t skip[] = {0x0B, 0x77, 0x00, 0x00, 0x00, 0x40, 0x20, 0x00, 0x0B, 0x00, 0x1F, 0x3E, 0x7C, 0xF9, 0xF3, 0xE2, 0x00, 0x20,
+        0x00, 0x7F, 0xE0};
+    parse_frame(skip, sizeof skip);
+    holds("a skip field past the frame", refused_at(6, 45, 163) && unfit(110, 0));
+    const uint8_t mantissa[] = {0x0B, 0x77, 0x00, 0x00, 0x00, 0x40, 0x20, 0x00, 0x0B, 0x00, 0x1F, 0x3E, 0x7C, 0xF9, 0xF3, 0xE2, 0x00, 0x20,
+        0x07, 0x00, 0x00, 0x00, 0x00, 0x00, 0x00, 0x7F, 0x0E};
+    parse_frame(mantissa, sizeof mantissa);
+    holds("block 5's mantissas past the frame", refused_at(6, 97, 1017) && unfit(111, 5));
 }
 
 static void try_range_eq(void) {
@@ -134,7 +187,11 @@ static void try_texts(void) {
     holds("roles by their numbers", strcmp(roles[FERRYSPRIG_ROLE_FRAME_SIZE], "FrameSize") == 0
               && strcmp(roles[FERRYSPRIG_ROLE_MANTISSAS], "Mantissas") == 0);
     holds("meanings by their numbers", strcmp(meanings[0], "accepted") == 0 && strcmp(meanings[5], "bsid is above 8") == 0
-              && strcmp(meanings[33], "a byte after the frame is not 0") == 0);
+              && strcmp(meanings[23], "block 0 has snroffste 0") == 0 && strcmp(meanings[33], "a byte after the frame is not 0") == 0);
+    bool empty = meanings[29][0] == '\0';
+    for (int i = 24; i < 28; i++)
+        empty = empty && meanings[i][0] == '\0';
+    holds("no meanings where there is no refusal", empty);
 }
 
 /* A stack for calls alone: what they used of it is no longer as it was. */
@@ -147,7 +204,6 @@ static ucontext_t here, there;
 static bool as_bursts;
 
 static void call(void) {
-    static int32_t room[FERRYSPRIG_MOST_ROWS * WIDTH];
     static uint8_t back[FERRYSPRIG_MOST_BYTES];
     size_t place = 0, numbers = sizeof room / sizeof *room;
     do {
@@ -199,6 +255,7 @@ static void try_stack(int files, char **names) {
 
 int main(int argc, char **argv) {
     try_calls();
+    try_frames();
     try_range_eq();
     try_bursts();
     try_texts();

@@ -33,6 +33,13 @@ SLIPS = [  # what, file, old, new
     ('index of coupling delta segments is 0', MOD, '            index,\n', '            index: if name == "cpldeltoffst" { 0 } else { index },\n'),
     ('coordinates judged in the last coupled block', CUT, 'if cpl_blocks == 1 {', 'if cpl_blocks >= 1 {'),
     ('blocks with a new strategy counted', CUT, '            cpl_blocks += 1;', '            cpl_blocks += usize::from(cplstre);'),
+    # what a refusal tells
+    ('rematstr told as baie', CUT, 'no(21, "rematstr', 'no(22, "rematstr'),
+    ('snroffste told as cplstre', CUT, 'no(23, "snroffste', 'no(8, "snroffste'),
+    ('a skip field told as skipl', MOD, 'name: names::number(name),', 'name: names::number(name) - i32::from(name == "skipfld"),'),
+    ('mantissas told as the field before', MOD, 'self.check(width, what, "mantissas")?', 'self.check(width, what, "skiple")?'),
+    ("a block's first field told in the block before", MOD, 'block: self.block.into(),', 'block: i32::from(self.block) - i32::from(name == "blksw"),'),
+    ('what has no row told too', MOD, 'return no(7, "no row left");', 'return Err(No { number: 7, text: String::new(), unfit: Unfit { name: names::number(name), block: self.block.into() } });'),
     # order and limits of judgements
     ('row for a bad group not written', MOD, '        self.count += 1;\n', '        if !(name == "exps[ch]" && value > 124) { self.count += 1; }\n'),
     ('fscod judged before frmsizecod', CUT, '    let frmsizecod =', '    if fscod == 3 { return no(3, ""); }\n    let frmsizecod ='),

@@ -25,16 +25,16 @@ def checksum(rows):
 
 
 def expected(answer, data, room):
-    """What the Rust answers: rows, bit, checksum, refusal; and for an accepted frame the rest of its summary."""
+    """What the Rust answers: rows, bit, checksum, refusal, and the name and block (plus one) that it tells; or 0 and the rest of the summary."""
     run = subprocess.run([answer, "--rows", room, "--summary"], input=data, capture_output=True, check=True)
     *lines, last, summary = run.stdout.decode().splitlines()
     rows = [[int(n) for n in line.split()] for line in lines]
     word, *numbers = last.split()
     summary = [int(n) for n in summary.split()[1:]]
     if word == "refused":
-        number, count, bit = map(int, numbers)
+        number, count, bit, name, block = map(int, numbers)
         assert not any(summary), "a refusal's summary is all zeros"
-        return [count, bit, checksum(rows), number]
+        return [count, bit, checksum(rows), number, name, block + 1]
     count, size, bit, *rest = summary
     return [count, bit, checksum(rows), 0, size] + rest
 

@@ -1,13 +1,15 @@
 //! The checks made on every input: the cut copy against the published parser, the rows against
-//! the table of names, and the room rule in the cursor against the rule derived from the run with
-//! ample room. A disagreement stops the program and shows the input.
+//! the table of names, what did not fit against the rows and against the same run in a longer frame, and the room rule in the
+//! cursor against the rule derived from the run with ample room. A disagreement stops the program and shows the input.
 
 use crate::ac3;
-use crate::cut::{answer, Answer, MANY_ROWS};
+use crate::bits;
+use crate::cut::{answer, Answer, Unfit, MANY_ROWS};
 use crate::error::Error;
 use crate::hex;
 use crate::layout::{row, row_at, ROW};
 use crate::names;
+use crate::tables::ac3_frame_words;
 use std::rc::Rc;
 
 /// An input's answer with ample room, and the rows written there.
@@ -52,10 +54,45 @@ impl Judge {
         let got = answer(capture, place, &mut self.room);
         let rows = self.room[..got.rows * ROW].to_vec();
         let ample = Ample { answer: got, rows };
-        if let Err(why) = agrees_with_published(&ample, capture.get(place..).unwrap_or(&[])) {
+        let data = capture.get(place..).unwrap_or(&[]);
+        let agreed = agrees_with_published(&ample, data)
+            .and_then(|_| told_what_did_not_fit(&ample))
+            .and_then(|_| self.comes_next_in_a_longer_frame(&ample, data));
+        if let Err(why) = agreed {
             panic!("{why}\nplace {place} of {}", hex::of(capture));
         }
         ample
+    }
+
+    /// At refusal 6, what did not fit is what comes next: the same fields in the longest frame of the same sampling rate, zeros at its end,
+    /// give the same rows but for frmsizecod's value, and then a row of that name and block; or it does not fit there either.
+    fn comes_next_in_a_longer_frame(&mut self, ample: &Ample, data: &[u8]) -> Result<(), String> {
+        let Ample { answer: got, rows } = ample;
+        if got.number() != 6 {
+            return Ok(());
+        }
+        let mut longer = data.to_vec();
+        let fscod = bits::get(data, 32, 2) as usize;
+        bits::set(&mut longer, 34, 6, 37);
+        let words = ac3_frame_words(fscod, 37).expect("a size");
+        longer.resize(2 * words, 0);
+        let again = answer(&longer, 0, &mut self.room);
+        let size = rows
+            .chunks(ROW)
+            .position(|r| r[row_at::NAME] == names::number("frmsizecod"));
+        let size = size.expect("before the blocks") * ROW + row_at::VALUE;
+        self.room[size] = rows[size];
+        if again.rows < got.rows || self.room[..rows.len()] != rows[..] {
+            return Err("other rows in a longer frame".into());
+        }
+        let next = match again.rows == got.rows {
+            true => again.unfit(),
+            false => Unfit {
+                name: self.room[rows.len() + row_at::NAME],
+                block: self.room[rows.len() + row_at::BLOCK],
+            },
+        };
+        same("in a longer frame what comes next", got.unfit(), next)
     }
 
     /// The answer with room for `numbers` numbers, or with room that just suffices and `left_over`
@@ -173,6 +210,29 @@ fn agrees_with_published(ample: &Ample, data: &[u8]) -> Result<(), String> {
     }
 }
 
+/// At refusal 6 alone something did not fit: the Rust's text begins with its name (a mantissa stands for its block's), and its block is
+/// that of the last row, or the next one at the first field of a block.
+fn told_what_did_not_fit(ample: &Ample) -> Result<(), String> {
+    let Ample { answer: got, rows } = ample;
+    let expected = match &got.verdict {
+        Err(no) if no.number == 6 => {
+            let name = match no.text.split(' ').next().expect("a word") {
+                "mantissa" => "mantissas",
+                name => name,
+            };
+            let last = &rows[rows.len() - ROW..];
+            let [first, last_name] = [names::number("blksw"), last[row_at::NAME]];
+            let opens = names::number(name) == first && last_name != first;
+            Unfit {
+                name: names::number(name),
+                block: last[row_at::BLOCK] + i32::from(opens),
+            }
+        }
+        _ => Unfit::NONE,
+    };
+    same("what did not fit", got.unfit(), expected)
+}
+
 /// The summary's "coordinates sent", read off the rows of an accepted frame.
 fn coordinates_sent(rows: &[i32]) -> bool {
     let (cplinu, cplcoe) = (names::number("cplinu"), names::number("cplcoe"));
@@ -192,16 +252,21 @@ fn entailed(ample: &Ample, answer: &Answer, room: &[i32]) -> Result<(), String> 
         if answer != &ample.answer {
             return Err(format!("{answer:?}, with ample room {:?}", ample.answer));
         }
-        (ample.answer.number(), ample.answer.rows, ample.answer.bit)
+        (
+            ample.answer.number(),
+            ample.answer.rows,
+            ample.answer.bit,
+            ample.answer.unfit(),
+        )
     } else {
         let missing = &ample.rows[ROW * limit..][..ROW];
         let walked = missing[row_at::NAME] == names::number("mantissas");
         let bit = missing[row_at::POS] + if walked { missing[row_at::WIDTH] } else { 0 };
-        (7, limit, bit as usize)
+        (7, limit, bit as usize, Unfit::NONE)
     };
     same(
         "the room rule",
-        (answer.number(), answer.rows, answer.bit),
+        (answer.number(), answer.rows, answer.bit, answer.unfit()),
         expected,
     )?;
     let written = ROW * answer.rows;

@@ -5,8 +5,8 @@
 
 use crate::agree::{Judge, Room};
 use crate::bits;
-use crate::craft::{sized, small, Asked};
-use crate::cut::{answer, MANY_ROWS};
+use crate::craft::{sized, small, Asked, Rule};
+use crate::cut::{answer, Unfit, MANY_ROWS};
 use crate::hex;
 use crate::layout::{row_at, ROW};
 use crate::listing::{self, last_line};
@@ -21,6 +21,8 @@ pub struct Corner {
     pub rows: Option<usize>,
     /// The number that docs/FORMAT.md gives, 0 for acceptance.
     pub number: u32,
+    /// What does not fit, at 6.
+    pub unfit: Unfit,
 }
 
 impl Corner {
@@ -31,6 +33,13 @@ impl Corner {
 
     fn place(mut self, place: usize) -> Self {
         self.place = place;
+        self
+    }
+
+    /// The field, span or mantissas of the block do not fit.
+    fn unfit(mut self, name: &str, block: i32) -> Self {
+        let name = number(name);
+        self.unfit = Unfit { name, block };
         self
     }
 
@@ -80,6 +89,7 @@ fn corner(name: &'static str, number: u32, capture: Vec<u8>, what: &'static str)
         place: 0,
         rows: None,
         number,
+        unfit: Unfit::NONE,
     }
 }
 
@@ -111,6 +121,19 @@ fn trio(begin: u32, rule: impl Fn(&Asked) -> Option<u32>) -> Vec<u8> {
             ("cplstre" | "cplinu", 1, _) => Some(1),
             ("chincpl", 0, 2) => Some(0),
             _ => coupled(3, begin, a),
+        })
+    })
+}
+
+/// Two programmes with all that a header can have, 665 bits.
+fn longest_header(rule: Rule<'_>) -> Vec<u8> {
+    small(&|a| {
+        rule(a).or(match a.name {
+            "acmod" => Some(0),
+            "compre" | "langcode" | "audprodie" | "compr2e" | "langcod2e" | "audprodi2e" => Some(1),
+            "timecod1e" | "timecod2e" | "addbsie" => Some(1),
+            "addbsil" => Some(63),
+            _ => None,
         })
     })
 }
@@ -326,15 +349,7 @@ fn header() -> Vec<Corner> {
         corner(
             "longest-header",
             0,
-            small(&|a| match a.name {
-                "acmod" => Some(0),
-                "compre" | "langcode" | "audprodie" | "compr2e" | "langcod2e" | "audprodi2e" => {
-                    Some(1)
-                }
-                "timecod1e" | "timecod2e" | "addbsie" => Some(1),
-                "addbsil" => Some(63),
-                _ => None,
-            }),
+            longest_header(&|_| None),
             "665 bits before block 0",
         ),
     ]
@@ -350,7 +365,7 @@ fn coupling_strategy() -> Vec<Corner> {
         ),
         corner(
             "rematstr-0",
-            8,
+            21,
             small(&|a| match a.name {
                 "acmod" => Some(2),
                 "rematstr" => Some(0),
@@ -826,8 +841,8 @@ fn allocation() -> Vec<Corner> {
         })
     };
     vec![
-        corner("baie-0", 8, small(&|a| a.is("baie", 0).then_some(0)), "block 0 without allocation parameters"),
-        corner("snroffste-0", 8, small(&|a| a.is("snroffste", 0).then_some(0)), "block 0 without SNR offsets"),
+        corner("baie-0", 22, small(&|a| a.is("baie", 0).then_some(0)), "block 0 without allocation parameters"),
+        corner("snroffste-0", 23, small(&|a| a.is("snroffste", 0).then_some(0)), "block 0 without SNR offsets"),
         corner("delta-reuse-in-block-0", 18, delta(&|a| (a.name == "deltbae").then_some(0)), "deltbae 0 in block 0"),
         corner("delta-reserved", 19, delta(&|a| (a.name == "deltbae").then_some(3)), "deltbae 3"),
         corner(
@@ -1023,7 +1038,26 @@ fn tail_and_room() -> Vec<Corner> {
             6,
             one_more,
             "the same with skiple 1 in its last bit: skipl does not fit",
-        ),
+        )
+        .unfit("skipl", 5),
+        corner(
+            "block-5-starts-at-the-end",
+            6,
+            ending_at(1034),
+            "block 4 ends with the frame: block 5's first field does not fit",
+        )
+        .unfit("blksw", 5),
+        corner(
+            "field-past-the-frame-in-block-0",
+            6,
+            longest_header(&|a| match (a.name, a.block) {
+                ("chexpstr", 0) => Some(1),
+                ("chbwcod", _) => Some(60),
+                _ => None,
+            }),
+            "665 bits of header leave block 0 too few for its exponents: a group does not fit",
+        )
+        .unfit("exps[ch]", 0),
         corner(
             "audio-17-before-the-end",
             0,
@@ -1082,13 +1116,38 @@ fn tail_and_room() -> Vec<Corner> {
             6,
             skip(511),
             "a skip field that does not fit: stands at its start",
-        ),
+        )
+        .unfit("skipfld", 0),
+        corner(
+            "skip-too-much-in-block-5",
+            6,
+            small(&|a| match (a.name, a.block) {
+                ("skiple", 5) => Some(1),
+                ("skipl", _) => Some(511),
+                _ => None,
+            }),
+            "the same in block 5",
+        )
+        .unfit("skipfld", 5),
         corner(
             "mantissa-too-much",
             6,
             loud(63),
             "a mantissa that does not fit: stands at its start",
-        ),
+        )
+        .unfit("mantissas", 0),
+        corner(
+            "mantissa-too-much-in-block-5",
+            6,
+            small(&|a| match (a.name, a.block) {
+                ("fgaincod", _) => Some(7),
+                ("snroffste", 5) => Some(1),
+                ("csnroffst", 5) => Some(63),
+                _ => None,
+            }),
+            "the same in block 5",
+        )
+        .unfit("mantissas", 5),
         corner(
             "walk-order-coupling",
             6,
@@ -1100,7 +1159,8 @@ fn tail_and_room() -> Vec<Corner> {
                 _ => coupled(2, 2, a),
             }),
             "channel 0's mantissas (16 bits each) fit, coupling's (14) come next and do not",
-        ),
+        )
+        .unfit("mantissas", 0),
         corner(
             "walk-order-lfe",
             6,
@@ -1111,14 +1171,16 @@ fn tail_and_room() -> Vec<Corner> {
                 _ => None,
             }),
             "the channel's mantissas (16 bits each) come before those of LFE (14) and do not fit",
-        ),
+        )
+        .unfit("mantissas", 0),
         corner(
             "six-before-seven",
             6,
             loud(63),
-            "the same with no row left for the mantissas",
+            "a mantissa that does not fit, and no row left for the mantissas",
         )
-        .rows(rows_of(&loud(63))),
+        .rows(rows_of(&loud(63)))
+        .unfit("mantissas", 0),
         corner(
             "seven-after-the-walk",
             7,

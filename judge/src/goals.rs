@@ -1,7 +1,7 @@
 //! What the inputs are to reach. A goal is a kind and one or two numbers.
 
 use crate::cases::Case;
-use crate::cut::REFUSALS;
+use crate::cut::{Unfit, REFUSALS};
 use crate::features::{self, FEATURES};
 use crate::layout::{row_at, ROW};
 use crate::names::{self, number};
@@ -18,6 +18,8 @@ pub const REFUSAL: &str = "refusal";
 pub const SITE: &str = "refusal after the name";
 /// Refused with the number in the block.
 pub const IN_BLOCK: &str = "refusal in block";
+/// Refused with 6 in the block, at one of the `SORTS`.
+pub const SIX_IN: &str = "refusal 6 in block";
 /// Refused with 6 or with 7 at the name.
 pub const SIX: &str = "refusal 6 at name";
 pub const SEVEN: &str = "refusal 7 at name";
@@ -41,6 +43,17 @@ pub const FEATURE: &str = "feature";
 pub const PLACE: &str = "place";
 /// Numbers of room left over beyond whole rows, in an accepted frame (0) and in refusal 7 (1).
 pub const LEFT_OVER: &str = "accepted or 7, numbers left over";
+
+/// What may not fit in a block. (The header always fits: see `LAST_OF_HEADER`.)
+pub const SORTS: [&str; 3] = ["a field", "a skip field", "mantissas"];
+
+fn sort(name: i32) -> i32 {
+    match names::of(name).text {
+        "skipfld" => 1,
+        "mantissas" => 2,
+        _ => 0,
+    }
+}
 
 pub const PLACES: [&str; 6] = [
     "accepted at byte 0 of a longer capture",
@@ -128,13 +141,9 @@ pub fn reached(case: &Case<'_>) -> Vec<Goal> {
                 },
                 4 if case.place > 0 => goals.push((PLACE, 2, 0)),
                 6 => {
-                    let name = no.text.split(' ').next().expect("a word");
-                    let name = if name == "mantissa" {
-                        "mantissas"
-                    } else {
-                        name
-                    };
-                    goals.push((SIX, number(name), 0));
+                    let Unfit { name, block } = no.unfit;
+                    goals.push((SIX, name, 0));
+                    goals.push((SIX_IN, block, sort(name)));
                 }
                 7 => {
                     goals.push((SEVEN, case.call.ample.rows[ROW * answer.rows], 0));
@@ -182,13 +191,13 @@ fn judged(refusal: i32, rows: &[i32], rest: usize) -> Option<i32> {
 }
 
 /// Where a refusal other than 6 and 7 can stand: its number and the last row's name.
-pub const SITES: [(i32, &[&str]); 18] = [
+pub const SITES: [(i32, &[&str]); 21] = [
     (1, &[]),
     (2, &["syncword"]),
     (3, &["frmsizecod"]),
     (4, &["frmsizecod"]),
     (5, &["bsid"]),
-    (8, &["cplstre", "rematstr", "baie", "snroffste"]),
+    (8, &["cplstre"]),
     (9, &["cplendf"]),
     (10, &["cplendf", "cplbndstrc"]),
     (11, &["chbwcod"]),
@@ -204,6 +213,9 @@ pub const SITES: [(i32, &[&str]); 18] = [
     (18, &["cpldeltbae", "deltbae"]),
     (19, &["cpldeltbae", "deltbae"]),
     (20, &["skiple", "skipfld"]),
+    (21, &["rematstr"]),
+    (22, &["baie"]),
+    (23, &["snroffste"]),
 ];
 
 /// Refusal 6 cannot stand at the names up to this one: the longest header has 665 bits, the
@@ -220,6 +232,8 @@ pub fn required() -> Vec<Goal> {
         goals.extend(after.iter().map(|name| (SITE, refusal, number(name))));
     }
     goals.extend((number(LAST_OF_HEADER) + 1..=count).map(|n| (SIX, n, 0)));
+    let sorts = SORTS.len() as i32;
+    goals.extend((0..6 * sorts).map(|n| (SIX_IN, n / sorts, n % sorts)));
     goals.extend((1..=count).map(|n| (SEVEN, n, 0)));
     goals.push((ONE_ROW_SHORT, 0, 0));
     goals.extend([(OUTSIDE, 0, 0), (OUTSIDE, 1, 0)]);
@@ -284,6 +298,7 @@ pub fn say(goal: &Goal) -> String {
     match kind {
         NAME | SIX | SEVEN => format!("{kind}: {} {}", a, name(a)),
         SITE => format!("refusal {a} after {}", name(b)),
+        SIX_IN => format!("{kind} {a} at {}", SORTS[b as usize]),
         VALUE => format!("{} {b}", name(a)),
         FEATURE => FEATURES[a as usize].into(),
         PLACE => PLACES[a as usize].into(),
@@ -293,14 +308,25 @@ pub fn say(goal: &Goal) -> String {
     }
 }
 
-/// What docs/FORMAT.md asks to run and compare, by name.
-pub fn by_name() -> [(&'static str, Goal); 5] {
+/// What docs/FORMAT.md asks to run and compare, by name; then each of the four flags missing in block 0, and refusal 6 at each sort of
+/// element, in block 0 and in block 5.
+pub fn by_name() -> [(&'static str, Goal); 15] {
     [
         ("chbwcod 60", (VALUE, number("chbwcod"), 60)),
         ("chbwcod 61", (JUDGED, 11, 61)),
         (ONE_ROW_SHORT, (ONE_ROW_SHORT, 0, 0)),
         ("frame one byte short", (JUDGED, 4, 1)),
         ("zero-width mantissas", (FEATURE, 0, 0)),
+        ("cplstre 0 in block 0", (SITE, 8, number("cplstre"))),
+        ("rematstr 0 in block 0", (SITE, 21, number("rematstr"))),
+        ("baie 0 in block 0", (SITE, 22, number("baie"))),
+        ("snroffste 0 in block 0", (SITE, 23, number("snroffste"))),
+        ("a field of block 0 past the frame", (SIX_IN, 0, 0)),
+        ("block 0's skip field past the frame", (SIX_IN, 0, 1)),
+        ("block 0's mantissas past the frame", (SIX_IN, 0, 2)),
+        ("a field of block 5 past the frame", (SIX_IN, 5, 0)),
+        ("block 5's skip field past the frame", (SIX_IN, 5, 1)),
+        ("block 5's mantissas past the frame", (SIX_IN, 5, 2)),
     ]
 }
 

@@ -33,14 +33,14 @@ pub fn row(field: &Field) -> [i32; ROW] {
 }
 
 /// The numbers of an answer.
-pub const ANSWER: usize = 24;
+pub const ANSWER: usize = 26;
 
 /// Which number of an answer is which.
 pub mod answer_at {
     pub const REFUSAL: usize = 0;
     pub const ROWS: usize = 1;
     pub const BIT: usize = 2;
-    /// From here on the numbers are an accepted frame's summary, all 0 on a refusal. The first is the row count again.
+    /// From here up to `NAME` the numbers are an accepted frame's summary, all 0 on a refusal. The first is the row count again.
     pub const SUMMARY: usize = 3;
     pub const BYTES: usize = 4;
     pub const AUDIO_END: usize = 5;
@@ -53,6 +53,9 @@ pub mod answer_at {
     pub const BLOCK_STARTS: usize = 11;
     pub const MANTISSA_STARTS: usize = 17;
     pub const COORDINATES_SENT: usize = 23;
+    /// Name and block of what did not fit, at refusal 6; 0 and -1 for every other answer, an accepted frame's too.
+    pub const NAME: usize = 24;
+    pub const BLOCK: usize = 25;
 }
 
 /// An answer about a burst: its numbers are refusal, rows of the parse, bytes written.

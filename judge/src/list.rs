@@ -3,17 +3,29 @@
 use crate::cases::{Case, Edit};
 use crate::layout::{answer_at, ANSWER};
 use std::fmt::Write;
+use std::ops::Range;
+
+/// The numbers of an answer that a line has whatever the answer, in their order there, and those that it has on acceptance alone.
+const TOLD: [usize; 5] = [
+    answer_at::REFUSAL,
+    answer_at::ROWS,
+    answer_at::BIT,
+    answer_at::NAME,
+    answer_at::BLOCK,
+];
+const SUMMARY: Range<usize> = answer_at::SUMMARY..answer_at::NAME;
 
 /// The head of the file.
 pub const HEAD: &str = "\
 # One item to a line, words separated by one space:
 #   frame HEX                                 the capture for the cases that follow
-#   case EDIT KEEP PLACE NUMBERS : NUMBER ROWS BIT CHECKSUM [SUMMARY...]
+#   case EDIT KEEP PLACE NUMBERS : NUMBER ROWS BIT NAME BLOCK CHECKSUM [SUMMARY...]
 # EDIT      `-`, or AT,WIDTH,VALUE: first overwrite WIDTH bits of the capture at bit AT with VALUE
 # KEEP      then keep this many bytes of the capture
 # PLACE     the byte at which to parse
 # NUMBERS   the length of the lent room; its number i is 1000000 + i before the call
 # NUMBER    0: accepted, else the refusal; ROWS and BIT as docs/FORMAT.md says, BIT being audio_end if accepted
+# NAME      with BLOCK what did not fit, at refusal 6; else 0 and -1
 # CHECKSUM  over every number of the room after the call: h = 2166136261, then for each number, as its four
 #           bytes lowest first, h = (h XOR byte) * 16777619 mod 2^32; in decimal
 # SUMMARY   on acceptance, the numbers of the summary in the order of docs/FORMAT.md; yes is 1
@@ -70,8 +82,7 @@ impl Listed {
             Some(e) => write!(out, "{},{},{}", e.at, e.width, e.value).expect("text"),
         }
         let said = &self.said;
-        let (told, summary) = said.numbers.split_at(answer_at::SUMMARY);
-        let told = told.iter().map(i32::to_string).collect::<Vec<_>>();
+        let told = TOLD.map(|at| said.numbers[at].to_string());
         write!(
             out,
             " {} {} {} : {} {}",
@@ -83,7 +94,7 @@ impl Listed {
         )
         .expect("text");
         if said.numbers[answer_at::REFUSAL] == 0 {
-            for n in summary {
+            for n in &said.numbers[SUMMARY] {
                 write!(out, " {n}").expect("text");
             }
         }
@@ -110,11 +121,15 @@ impl Listed {
             .split(' ')
             .map(|n| n.parse().expect("a number"))
             .collect();
-        let (told, rest) = said.split_at(answer_at::SUMMARY);
+        let (told, rest) = said.split_at(TOLD.len());
         let (checksum, summary) = rest.split_first().expect("a checksum");
         let mut numbers = [0; ANSWER];
-        for (to, from) in numbers.iter_mut().zip(told.iter().chain(summary)) {
-            *to = *from as i32;
+        for (at, from) in TOLD
+            .into_iter()
+            .chain(SUMMARY)
+            .zip(told.iter().chain(summary))
+        {
+            numbers[at] = *from as i32;
         }
         Listed {
             edit,

@@ -12,7 +12,10 @@ pub const BYTES: usize = 3840;
 pub fn last_line(answer: &Answer) -> String {
     match &answer.verdict {
         Ok(s) => format!("audio {} {} {}", s.rows, s.bytes, s.audio_end),
-        Err(no) => format!("refused {} {} {}", no.number, answer.rows, answer.bit),
+        Err(no) => format!(
+            "refused {} {} {} {} {}",
+            no.number, answer.rows, answer.bit, no.unfit.name, no.unfit.block
+        ),
     }
 }
 

@@ -25,6 +25,7 @@ fn each_has_its_number() {
         };
         let call = judge.call(&corner.capture, corner.place, room);
         assert_eq!(call.answer.number(), corner.number, "{}", corner.name);
+        assert_eq!(call.answer.unfit(), corner.unfit, "{}", corner.name);
         assert!(names.insert(corner.name), "{} stands twice", corner.name);
     }
 }

@@ -27,7 +27,7 @@ fn the_example_byte_for_byte() {
                     2 2 -1 -1 -1 16 16 0\n\
                     3 5 -1 -1 -1 32 2 3\n\
                     4 5 -1 -1 -1 34 6 0\n\
-                    refused 3 4 40\n";
+                    refused 3 4 40 0 -1\n";
     assert_eq!(
         listing(&[], &[0x0B, 0x77, 0x00, 0x00, 0xC0, 0x00]),
         expected
@@ -36,7 +36,7 @@ fn the_example_byte_for_byte() {
 
 #[test]
 fn nothing_on_standard_input() {
-    assert_eq!(listing(&[], &[]), "refused 1 0 0\n");
+    assert_eq!(listing(&[], &[]), "refused 1 0 0 0 -1\n");
 }
 
 #[test]
@@ -69,6 +69,7 @@ fn it_lends_so_many_rows() {
     let lines: Vec<&str> = text.lines().collect();
     assert_eq!(lines.len(), ROWS + 1);
     assert!(lines[ROWS].starts_with(&format!("refused 7 {ROWS} ")));
+    assert!(lines[ROWS].ends_with(" 0 -1"));
     // With more rows the frame is accepted.
     let text = listing(&["--all"], &dense);
     assert!(text.lines().last().unwrap().starts_with("audio 2778 3840 "));
@@ -83,6 +84,10 @@ fn all_frames_of_a_stream() {
     let last_lines: Vec<&str> = text.lines().filter(|l| l.starts_with(['a', 'r'])).collect();
     assert_eq!(
         last_lines,
-        ["audio 95 128 204", "audio 95 128 204", "refused 2 1 16"]
+        [
+            "audio 95 128 204",
+            "audio 95 128 204",
+            "refused 2 1 16 0 -1"
+        ]
     );
 }

@@ -45,7 +45,7 @@ fn rows_one_too_few() {
             assert_eq!((call.answer.number(), call.answer.rows), (7, limit));
             assert_eq!(call.room[..ROW * limit], enough.room[..ROW * limit]);
             let numbers = call.answer.numbers();
-            let summary = &numbers[answer_at::SUMMARY..];
+            let summary = &numbers[answer_at::SUMMARY..answer_at::NAME];
             assert!(summary.iter().all(|n| *n == 0), "the summary is all zeros");
         }
     }

@@ -1,7 +1,7 @@
 //! What comes of parsing: a frame, in a list of its own or in lent room, or a refusal.
 
 use crate::layout::{answer_at, Answer};
-use crate::names::{known, meaning};
+use crate::names::{known, meaning, name_of};
 use crate::{Field, Fields, Role};
 use std::array::from_fn;
 use std::fmt;
@@ -136,14 +136,35 @@ impl<'a> FrameRef<'a> {
 #[derive(Clone, Debug, PartialEq, Eq)]
 #[non_exhaustive]
 pub struct Refusal {
-    /// 1 to 20.
+    /// 1 to 23.
     pub number: u8,
-    /// What was read before, end to end from bit 0. The last one has the bad value at refusals 2, 5, 8, 11 and 16 to 19. At 3 it is one of
-    /// the last two, fscod and frmsizecod; at 9 both of them together, cplbegf and cplendf. At 10, 12 to 15 and 20 the last one is not to
-    /// blame, but what was sent, or never sent, before; at 1, 4, 6 and 7 input, frame or room end too early.
+    /// What was read before, end to end from bit 0. The last one has the bad value at refusals 2, 5, 8, 11, 16 to 19 and 21 to 23. At 3 it
+    /// is one of the last two, fscod and frmsizecod; at 9 both of them together, cplbegf and cplendf. At 10, 12 to 15 and 20 the last one is
+    /// not to blame, but what was sent, or never sent, before; at 1, 4, 6 and 7 input, frame or room end too early.
     pub rows: Vec<Field>,
     /// The first bit not yet read.
     pub bit: usize,
+    /// What would end past the frame, at refusal 6; else none.
+    pub unfit: Option<Unfit>,
+}
+
+/// A field, a span or a block's mantissas that would end past the frame. It comes next after the rows that were read.
+#[derive(Clone, Copy, Debug, PartialEq, Eq, Hash)]
+#[non_exhaustive]
+pub struct Unfit {
+    /// Its name, one of [`NAMES`](crate::NAMES).
+    pub name: &'static str,
+    /// Its block, 0 to 5; -1 would be the header, but every header fits.
+    pub block: i8,
+}
+
+/// What did not fit, in an answer.
+pub(crate) fn unfit(answer: &Answer) -> Option<Unfit> {
+    let name = answer[answer_at::NAME];
+    (name != 0).then(|| Unfit {
+        name: name_of(name),
+        block: known(answer[answer_at::BLOCK]),
+    })
 }
 
 impl Refusal {
@@ -161,7 +182,12 @@ impl fmt::Display for Refusal {
             self.number,
             self.bit,
             self.meaning()
-        )
+        )?;
+        match self.unfit {
+            Some(Unfit { name, block: -1 }) => write!(f, " ({name} in the header)"),
+            Some(Unfit { name, block }) => write!(f, " ({name} in block {block})"),
+            None => Ok(()),
+        }
     }
 }
 
@@ -170,6 +196,7 @@ impl std::error::Error for Refusal {}
 #[cfg(test)]
 mod tests {
     use super::*;
+    use crate::layout::ANSWER_NUMBERS;
     use crate::REFUSALS;
 
     fn refusal(number: u8) -> Refusal {
@@ -177,6 +204,7 @@ mod tests {
             number,
             rows: Vec::new(),
             bit: 7,
+            unfit: None,
         }
     }
 
@@ -189,6 +217,28 @@ mod tests {
                 format!("refusal {number} at bit 7: {meaning}")
             );
             assert_eq!(REFUSALS.iter().filter(|other| *other == meaning).count(), 1);
+        }
+    }
+
+    #[test]
+    fn what_did_not_fit_is_said() {
+        let mut answer = [0; ANSWER_NUMBERS];
+        answer[answer_at::BLOCK] = -1;
+        assert_eq!(unfit(&answer), None);
+        for (number, name, block, place) in [
+            (111, "mantissas", 5, "block 5"),
+            (1, "syncword", -1, "the header"),
+        ] {
+            answer[answer_at::NAME] = number;
+            answer[answer_at::BLOCK] = block.into();
+            let told = unfit(&answer);
+            assert_eq!(told, Some(Unfit { name, block }));
+            let past = Refusal {
+                unfit: told,
+                ..refusal(6)
+            };
+            let text = "refusal 6 at bit 7: a field, span or mantissa would end past the frame";
+            assert_eq!(past.to_string(), format!("{text} ({name} in {place})"));
         }
     }
 

@@ -26,7 +26,7 @@ pub const MOST_ROWS: usize = 4067;
 pub const MOST_BYTES: usize = 3840;
 
 /// The numbers of an answer.
-pub const ANSWER_NUMBERS: usize = 24;
+pub const ANSWER_NUMBERS: usize = 26;
 
 /// Which number of an answer is which. (Number 3, the first of an accepted frame's summary, is the count of rows again.)
 pub mod answer_at {
@@ -47,6 +47,9 @@ pub mod answer_at {
     pub const BLOCK_STARTS: usize = 11;
     pub const MANTISSA_STARTS: usize = 17;
     pub const COORDINATES_SENT: usize = 23;
+    /// Name and block of what did not fit, at refusal 6; else 0 and -1.
+    pub const NAME: usize = 24;
+    pub const BLOCK: usize = 25;
 }
 
 pub type Answer = [i32; ANSWER_NUMBERS];

@@ -11,6 +11,7 @@
 //! assert_eq!((refusal.number, refusal.bit), (3, 40));
 //! assert_eq!(refusal.rows.len(), 4);
 //! assert_eq!(refusal.rows[2].name, "fscod");
+//! assert_eq!(refusal.unfit, None); // at refusal 6: what would end past the frame, by name and block
 //! assert_eq!(refusal.to_string(), "refusal 3 at bit 40: fscod is 3, or frmsizecod is 38 or more");
 //! ```
 //!
@@ -104,7 +105,7 @@ mod parser;
 mod raw;
 
 pub use field::{Field, Fields};
-pub use frame::{Frame, FrameRef, Refusal, Summary};
+pub use frame::{Frame, FrameRef, Refusal, Summary, Unfit};
 pub use layout::{MOST_BYTES, MOST_ROWS, ROW_NUMBERS};
 pub use names::{Role, NAMES, REFUSALS};
 pub use parser::{parse, parse_at, parse_into, Parser};

@@ -26,7 +26,7 @@ pub const REFUSALS: &[&str] = &[
     "bsid is above 8",
     "a field, span or mantissa would end past the frame",
     "no row is left",
-    "block 0 has cplstre, rematstr, baie or snroffste 0",
+    "block 0 has cplstre 0",
     "cplbegf is above cplendf + 2",
     "coupling with fewer than two channels",
     "chbwcod is above 60",
@@ -39,6 +39,9 @@ pub const REFUSALS: &[&str] = &[
     "cpldeltbae or deltbae is 0 in block 0",
     "cpldeltbae or deltbae is 3",
     "the coupling leak is needed, but was never sent",
+    "block 0 has rematstr 0",
+    "block 0 has baie 0",
+    "block 0 has snroffste 0",
 ];
 
 /// What a frame's refusal means, by its number.

@@ -1,6 +1,6 @@
 //! Parsing, into room that is kept or lent.
 
-use crate::frame::summary;
+use crate::frame::{summary, unfit};
 use crate::layout::{answer_at, MOST_ROWS, ROW_NUMBERS};
 use crate::names::known;
 use crate::{raw, Fields, Frame, FrameRef, Refusal};
@@ -49,6 +49,7 @@ pub fn parse_into<'a>(
             number: known(answer[answer_at::REFUSAL]),
             rows: fields.collect(),
             bit: known(answer[answer_at::BIT]),
+            unfit: unfit(&answer),
         })
     }
 }

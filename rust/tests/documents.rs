@@ -122,6 +122,8 @@ fn places_are_those_of_the_header() {
         ("BLOCK_STARTS", answer_at::BLOCK_STARTS),
         ("MANTISSA_STARTS", answer_at::MANTISSA_STARTS),
         ("COORDINATES_SENT", answer_at::COORDINATES_SENT),
+        ("NAME", answer_at::NAME),
+        ("BLOCK", answer_at::BLOCK),
     ];
     let burst = [
         ("REFUSAL", burst_answer_at::REFUSAL),

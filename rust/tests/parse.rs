@@ -3,7 +3,8 @@
 mod files;
 
 use ferrysprig::{
-    parse, parse_at, parse_into, Field, Parser, Role, MOST_BYTES, MOST_ROWS, REFUSALS, ROW_NUMBERS,
+    parse, parse_at, parse_into, Field, Parser, Refusal, Role, MOST_BYTES, MOST_ROWS, REFUSALS,
+    ROW_NUMBERS,
 };
 use std::cell::RefCell;
 use std::sync::mpsc::{channel, Sender};
@@ -36,6 +37,55 @@ fn the_example() {
     let refusal = parse(&EXAMPLE).unwrap_err();
     assert_eq!((refusal.number, refusal.bit), (3, 40));
     assert_eq!(refusal.rows, first_fields());
+    assert_eq!(refusal.unfit, None);
+}
+
+/// How a frame of judge/corners.txt is refused.
+fn corner(name: &str) -> Refusal {
+    let list = files::text("judge/corners.txt");
+    let (_, entry) = list.split_once(&format!("\n{name}: ")).expect(name);
+    let input = entry.lines().nth(1).unwrap();
+    let (digits, length) = input.split_once(" (").unwrap();
+    let digits = digits.trim_end_matches(" and zeros");
+    let mut frame = judge::hex::bytes(digits);
+    frame.resize(length.strip_suffix(" bytes)").unwrap().parse().unwrap(), 0);
+    parse(&frame).unwrap_err()
+}
+
+#[test]
+fn each_missing_flag_has_its_number() {
+    for (name, number, flag) in [
+        ("cplstre-0", 8, "cplstre"),
+        ("rematstr-0", 21, "rematstr"),
+        ("baie-0", 22, "baie"),
+        ("snroffste-0", 23, "snroffste"),
+    ] {
+        let refusal = corner(name);
+        assert_eq!((refusal.number, refusal.unfit), (number, None), "{name}");
+        assert_eq!(refusal.meaning(), format!("block 0 has {flag} 0"));
+        let last = refusal.rows.last().unwrap();
+        assert_eq!((last.name, last.block, last.value), (flag, 0, 0));
+    }
+}
+
+#[test]
+fn what_did_not_fit_is_told() {
+    for (case, name, block) in [
+        ("field-past-the-frame-in-block-0", "exps[ch]", 0),
+        ("skip-too-much", "skipfld", 0),
+        ("mantissa-too-much", "mantissas", 0),
+        ("audio-one-bit-more", "skipl", 5),
+        ("block-5-starts-at-the-end", "blksw", 5),
+        ("skip-too-much-in-block-5", "skipfld", 5),
+        ("mantissa-too-much-in-block-5", "mantissas", 5),
+    ] {
+        let refusal = corner(case);
+        let told = refusal.unfit.map(|unfit| (unfit.name, unfit.block));
+        assert_eq!((refusal.number, told), (6, Some((name, block))), "{case}");
+        assert!(refusal
+            .to_string()
+            .ends_with(&format!(" ({name} in block {block})")));
+    }
 }
 
 #[test]

@@ -12,6 +12,10 @@ use judge::list::{checksum, Listed, Said};
 /// An answer as the list says it.
 fn said(answer: &Result<Frame, Refusal>, room: &[i32]) -> Said {
     let mut numbers = [0; ANSWER];
+    let unfit = answer.as_ref().err().and_then(|refusal| refusal.unfit);
+    let name = unfit.map(|unfit| judge::names::number(unfit.name));
+    numbers[answer_at::NAME] = name.unwrap_or(0);
+    numbers[answer_at::BLOCK] = unfit.map_or(-1, |unfit| unfit.block.into());
     let mut tell = |at: usize, number: usize| numbers[at] = number as i32;
     match answer {
         Err(refusal) => {
@@ -54,14 +58,18 @@ fn last_fields(refusal: &Refusal) {
         2 => last == "syncword",
         3 => names[..2] == ["frmsizecod", "fscod"],
         5 => last == "bsid",
-        8 => ["cplstre", "rematstr", "baie", "snroffste"].contains(&last),
+        8 => last == "cplstre",
         9 => names[..2] == ["cplendf", "cplbegf"],
         11 => last == "chbwcod",
         16 | 17 => ["cplexps", "exps[ch]", "lfeexps"].contains(&last),
         18 | 19 => ["cpldeltbae", "deltbae"].contains(&last),
+        21 => last == "rematstr",
+        22 => last == "baie",
+        23 => last == "snroffste",
         _ => true,
     };
     assert!(expected, "refusal {} after {last}", refusal.number);
+    assert_eq!(refusal.unfit.is_some(), refusal.number == 6);
 }
 
 #[test]

@@ -34,16 +34,16 @@ unfolding syncframe header syncinfo _>>=_ run unless roomCheck check flatten sho
 listed = (refl, refl, refl)
 
 in-place : answer (0xFF ∷ frame) 1 (replicate (4 * rowWidth + 3) (pos 7))
-    ≡ (record { refusal = 3; rows = 4; bit = 40; summary = noSummary }, four-rows ++ pos 7 ∷ pos 7 ∷ pos 7 ∷ [])
+    ≡ (record { refusal = 3; rows = 4; bit = 40; name = 0; block = 255; summary = noSummary }, four-rows ++ pos 7 ∷ pos 7 ∷ pos 7 ∷ [])
 unfolding answered syncframe header syncinfo _>>=_ exec except roomCheck check shown value bitAt frameBytes
 in-place = refl
 
 -- with room for three rows the fourth is refused, before fscod 3 is judged
-short-of-room : answer frame 0 (replicate (4 * rowWidth - 1) (pos 7)) .0 ≡ record { refusal = 7; rows = 3; bit = 34; summary = noSummary }
+short-of-room : answer frame 0 (replicate (4 * rowWidth - 1) (pos 7)) .0 ≡ record { refusal = 7; rows = 3; bit = 34; name = 0; block = 255; summary = noSummary }
 unfolding answered syncframe header syncinfo _>>=_ exec except roomCheck check shown value bitAt frameBytes
 short-of-room = refl
 
 -- a place past the end: too short
-past-the-end : answer frame 7 (replicate (4 * rowWidth - 1) (pos 7)) ≡ (record { refusal = 1; rows = 0; bit = 0; summary = noSummary }, replicate (4 * rowWidth - 1) (pos 7))
+past-the-end : answer frame 7 (replicate (4 * rowWidth - 1) (pos 7)) ≡ (record { refusal = 1; rows = 0; bit = 0; name = 0; block = 255; summary = noSummary }, replicate (4 * rowWidth - 1) (pos 7))
 unfolding answered syncframe header syncinfo _>>=_ exec except
 past-the-end = refl

@@ -6,6 +6,7 @@ pub mod RowBound
 pub mod Within
 pub mod Editing
 pub mod Promise
+pub mod Unfitting
 pub mod Rooms
 pub mod MoreRoom
 pub mod Useless

@@ -14,6 +14,7 @@ use Rattle.ac3.proofs.OneAnswer.{any-two}
 use Rattle.ac3.proofs.Promise.{promised, reaches, answers-demand3}
 use Rattle.ac3.proofs.Rooms.{spans-by-role, rooms-demand3}
 use Rattle.ac3.proofs.RowBound.{row-bound}
+use Rattle.ac3.proofs.Unfitting.{what-did-not-fit}
 use Rattle.ac3.proofs.Useless.{none-useless}
 use Rattle.ac3.proofs.Values.{values-on-each-side}
 use Rattle.ac3.proofs.Within.{kept-within}
@@ -22,6 +23,7 @@ pub proved : Proved
 proved =
     record {
       promised = λ c. promised c refl;
+      what-did-not-fit = what-did-not-fit;
       within = kept-within;
       one-answer = any-two;
       cover = λ c ok. ac3-cover (input c) (roomFor c) (reaches c ok);

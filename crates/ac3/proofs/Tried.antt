@@ -199,11 +199,35 @@ refusal-5 =
     bytes 64 0x0b777e84014c258cfeb5006d24a576a840b3840397b5a675282aa60651abc79ef8ed034f4d912e19d7301f4f67b1c14267f320afa4e2310c3041905bcc102c35
     ++ bytes 64 0xdadb297b52d47a6d05ac3174979087fa5050310988800002010080043433b78ff4258a3845315bd5590f822e02c01872b0ef312da050010100d68cf027f91606
 
--- a field past the frame
-abbrev refusal-6 : List ℕ
-refusal-6 =
+-- block 0's skip field past the frame
+abbrev refusal-6-skip : List ℕ
+refusal-6-skip =
     bytes 64 0x0b7758d701462c042b0255e987286b075120756c828102dcaad2c454578a7b52540080648a8d4456a514d07d5225eb382aff8ae4ad55294b08df3ecbe8ba784f
     ++ bytes 64 0x60fdd829b4281db8f56213709312c5f611b00b2f82281bc319ca4a7c231ac67e200a22d9c0451e0c1c784034fa7a4e5b06ae2f46000ecc6d12f5be2857b0147f
+
+-- a field of block 0 past the frame: a group of exponents
+abbrev refusal-6-field : List ℕ
+refusal-6-field =
+    bytes 64 0x0b77000000400040201000804020080010003f800000000000000000000000000000000000000000000000000000000000000000000000000000000000000000
+    ++ bytes 64 0x00000000000000000000000000000000000000012f9e03e7cf9f3e7cf9f3e7cf9f3e7cf9f3e7cf9f3e7cf9f3e7cf9f3e7cf9f3e7cf9f3e7cf9f3e7cf9f3e7cf8
+
+-- block 4 ends with the frame: block 5's first field
+abbrev refusal-6-block-5 : List ℕ
+refusal-6-block-5 =
+    bytes 64 0x0b770000004020000b241f3e7cf9f3e7cf9f10010002640000000000000000000000000000000000000000000000000000000000000000000000000000000000
+    ++ bytes 64 0x00000000000000000000000000000000000000000000000000000000000000000000000000000000000000000000000000000000000000000000000000000000
+
+-- block 5's skip field past the frame
+abbrev refusal-6-skip-5 : List ℕ
+refusal-6-skip-5 =
+    bytes 64 0x0b770000004020000b001f3e7cf9f3e20020000000000000001ff800000000000000000000000000000000000000000000000000000000000000000000000000
+    ++ bytes 64 0x00000000000000000000000000000000000000000000000000000000000000000000000000000000000000000000000000000000000000000000000000000000
+
+-- block 5's mantissas past the frame
+abbrev refusal-6-walk-5 : List ℕ
+refusal-6-walk-5 =
+    bytes 64 0x0b770000004020000b001f3e7cf9f3e20020070000000000007f0e00000000000000000000000000000000000000000000000000000000000000000000000000
+    ++ bytes 64 0x00000000000000000000000000000000000000000000000000000000000000000000000000000000000000000000000000000000000000000000000000000000
 
 -- a mantissa past the frame
 abbrev refusal-6-walk : List ℕ
@@ -217,28 +241,22 @@ refusal-6-coupled =
     bytes 64 0x0b773cb30134130d0471e8de7f6a47802c87323d08e78d38d79e32c4abc6042854e1bddb81070e0b00a13c0015c30e98000e1c50002853e0038d8ef7e0c7c851
     ++ bytes 64 0xe939b968417244f09c000863f2cf7d40b80fb2e714051c1fb63ab6ba1d3b76636624865b7b9ac1f4531e63e90da4640b2dcc20ab2d56bd095b8f8855c717f9e8
 
+-- a field past the frame, in block 5
+abbrev refusal-6-late : List ℕ
+refusal-6-late =
+    bytes 64 0x0b770000004020000b441f3e7cf9f3e7cf9f3e7c4004000984000000000000000000000000000000000000000000000000000000000000000000000000000000
+    ++ bytes 64 0x00000000000000000000000000000000000000000000000000000000000000000000000000000000000000000000000000000000000000000000000000000001
+
+-- a mantissa past the frame, in block 5
+abbrev refusal-6-late-walk : List ℕ
+refusal-6-late-walk =
+    bytes 64 0x0b770000004020000b001f3e7cf9f3e20020070000000000007f0e00000000000000000000000000000000000000000000000000000000000000000000000000
+    ++ bytes 64 0x00000000000000000000000000000000000000000000000000000000000000000000000000000000000000000000000000000000000000000000000000000000
+
 -- block 0 has cplstre 0
-abbrev refusal-8-cplstre : List ℕ
-refusal-8-cplstre =
+abbrev refusal-8 : List ℕ
+refusal-8 =
     bytes 64 0x0b773f3a0128270c630de2d314a343a205d2c19c803ddb9e0140312243e000016800b4003ecb11e0401a582a9b80319e29aec4b07c8620060045b60fcfb6a1a8
-    ++ bytes 64 0x016779ae23db0f771b3cd725400e3e4db2360f3100001ee000010330eedf89d78a9e45140ecd70591396925f1d0c70f02e66600a00cc237b073d0af5ca815a5b
-
--- block 0 has rematstr 0
-abbrev refusal-8-rematstr : List ℕ
-refusal-8-rematstr =
-    bytes 64 0x0b771da100304182148678eecf1f6c5540eed243f43dbac26cbe74c8a5ed43ee100086099893de00000436000f000020000f2b35eb00038568e661a4c3151c5a
-    ++ bytes 64 0x1618afa80ab45805881bf9d1917d39872af7b4e60b7d5e255cb4c81adab49cdf5ae491874f0f62b9c61f0b35fb67fcbb4c186dac6b9377df5e3a9ea871c4c4b0
-
--- block 0 has baie 0
-abbrev refusal-8-baie : List ℕ
-refusal-8-baie =
-    bytes 64 0x0b7758d701462c042b0255e987286b05512001100c0102dcaad2c454578a7b52540080648a8d4456a514d07d5225eb382aff8ae4ad55294b08df3ecbe8ba784f
-    ++ bytes 64 0x60fdd829b4281db8f56213709312c5f611b00b2f82281bc319ca4a7c231ac67e200a22d9c0451e0c1c784034fa7a4e5b06ae2f46000ecc6d12f5be2857b0147f
-
--- block 0 has snroffste 0
-abbrev refusal-8-snroffste : List ℕ
-refusal-8-snroffste =
-    bytes 64 0x0b773f3a0128270c6b0de2d314a343a205d2819c803ddb9e0140312243e000016800b4003ecb11e0401a582a9b80319e29aec4b07c8620060045b60fcfb6a1a8
     ++ bytes 64 0x016779ae23db0f771b3cd725400e3e4db2360f3100001ee000010330eedf89d78a9e45140ecd70591396925f1d0c70f02e66600a00cc237b073d0af5ca815a5b
 
 -- cplbegf above cplendf + 2
@@ -323,6 +341,24 @@ refusal-20 =
     ++ bytes 64 0x60c0eb43840d3c6a94c7958db61306a2cc624c181bed6fc13792554ec7b9841d54e7bc70018303a6f9f01a7a141dd8273586cb61419830380a530196ace53c6d
     ++ bytes 32 0x711ae93437659ca306070d38c065e55ac44d96cb478985aaae188ba9a9005c9d
 
+-- block 0 has rematstr 0
+abbrev refusal-21 : List ℕ
+refusal-21 =
+    bytes 64 0x0b771da100304182148678eecf1f6c5540eed243f43dbac26cbe74c8a5ed43ee100086099893de00000436000f000020000f2b35eb00038568e661a4c3151c5a
+    ++ bytes 64 0x1618afa80ab45805881bf9d1917d39872af7b4e60b7d5e255cb4c81adab49cdf5ae491874f0f62b9c61f0b35fb67fcbb4c186dac6b9377df5e3a9ea871c4c4b0
+
+-- block 0 has baie 0
+abbrev refusal-22 : List ℕ
+refusal-22 =
+    bytes 64 0x0b7758d701462c042b0255e987286b05512001100c0102dcaad2c454578a7b52540080648a8d4456a514d07d5225eb382aff8ae4ad55294b08df3ecbe8ba784f
+    ++ bytes 64 0x60fdd829b4281db8f56213709312c5f611b00b2f82281bc319ca4a7c231ac67e200a22d9c0451e0c1c784034fa7a4e5b06ae2f46000ecc6d12f5be2857b0147f
+
+-- block 0 has snroffste 0
+abbrev refusal-23 : List ℕ
+refusal-23 =
+    bytes 64 0x0b773f3a0128270c6b0de2d314a343a205d2819c803ddb9e0140312243e000016800b4003ecb11e0401a582a9b80319e29aec4b07c8620060045b60fcfb6a1a8
+    ++ bytes 64 0x016779ae23db0f771b3cd725400e3e4db2360f3100001ee000010330eedf89d78a9e45140ecd70591396925f1d0c70f02e66600a00cc237b073d0af5ca815a5b
+
 accepted :
     (listing 2048 stereo ≡ 211 ∷ 1254 ∷ 1766583025364128360 ∷ 0 ∷ 160 ∷ 8 ∷ 2 ∷ 0 ∷ 0 ∷ 6 ∷ 67 ∷ 513 ∷ 688 ∷ 817 ∷ 946 ∷ 1100 ∷ 404 ∷ 579 ∷ 708 ∷ 837 ∷ 991 ∷ 1145 ∷ 1 ∷ [])
     × (listing 2048 mono ≡ 133 ∷ 2174 ∷ 1062008089163349296 ∷ 0 ∷ 278 ∷ 8 ∷ 1 ∷ 0 ∷ 1 ∷ 0 ∷ 65 ∷ 704 ∷ 998 ∷ 1292 ∷ 1586 ∷ 1880 ∷ 420 ∷ 714 ∷ 1008 ∷ 1302 ∷ 1596 ∷ 1890 ∷ 1 ∷ [])
@@ -349,31 +385,37 @@ unfolding bitAt value bitsBefore sameBits rangeEq _>>=_ turns shown except exec 
 accepted = (refl, refl, refl, refl, refl, refl, refl, refl, refl, refl, refl, refl, refl, refl, refl, refl, refl, refl, refl, refl, refl)
 
 refused :
-    (listing 2048 fscod-3 ≡ 4 ∷ 40 ∷ 29579453722108996 ∷ 3 ∷ [])
-    × (listing 2048 refusal-1 ≡ 0 ∷ 0 ∷ 0 ∷ 1 ∷ [])
-    × (listing 2048 refusal-2 ≡ 1 ∷ 16 ∷ 352286885166436349 ∷ 2 ∷ [])
-    × (listing 2048 refusal-4 ≡ 4 ∷ 40 ∷ 40781722323852877 ∷ 4 ∷ [])
-    × (listing 2048 refusal-5 ≡ 5 ∷ 45 ∷ 1373352214628650087 ∷ 5 ∷ [])
-    × (listing 2048 refusal-6 ≡ 45 ∷ 163 ∷ 2287202142014331790 ∷ 6 ∷ [])
-    × (listing 2048 refusal-6-walk ≡ 45 ∷ 1019 ∷ 772336669383944041 ∷ 6 ∷ [])
-    × (listing 2048 refusal-6-coupled ≡ 91 ∷ 1023 ∷ 406237143950309278 ∷ 6 ∷ [])
-    × (listing 210 stereo ≡ 210 ∷ 1254 ∷ 1819588965046830427 ∷ 7 ∷ [])
-    × (listing 3 fscod-3 ≡ 3 ∷ 34 ∷ 1747240727870654386 ∷ 7 ∷ [])
-    × (listing 2048 refusal-8-cplstre ≡ 21 ∷ 69 ∷ 1081658256954631330 ∷ 8 ∷ [])
-    × (listing 2048 refusal-8-rematstr ≡ 26 ∷ 75 ∷ 878359410002101658 ∷ 8 ∷ [])
-    × (listing 2048 refusal-8-baie ≡ 33 ∷ 127 ∷ 2175148581457006551 ∷ 8 ∷ [])
-    × (listing 2048 refusal-8-snroffste ≡ 40 ∷ 146 ∷ 220526504281723518 ∷ 8 ∷ [])
-    × (listing 2048 refusal-9 ≡ 25 ∷ 79 ∷ 124803676312919335 ∷ 9 ∷ [])
-    × (listing 2048 refusal-10 ≡ 25 ∷ 79 ∷ 832235487675882048 ∷ 10 ∷ [])
-    × (listing 2048 refusal-11 ≡ 24 ∷ 78 ∷ 1425268850680990827 ∷ 11 ∷ [])
-    × (listing 2048 refusal-12 ≡ 23 ∷ 72 ∷ 1271932964578572975 ∷ 12 ∷ [])
-    × (listing 2048 refusal-13 ≡ 40 ∷ 101 ∷ 234763683109086067 ∷ 13 ∷ [])
-    × (listing 2048 refusal-14 ≡ 46 ∷ 120 ∷ 521513078694644625 ∷ 14 ∷ [])
-    × (listing 2048 refusal-15 ≡ 35 ∷ 141 ∷ 1600166967492640722 ∷ 15 ∷ [])
-    × (listing 2048 refusal-16 ≡ 26 ∷ 89 ∷ 1814820017003890421 ∷ 16 ∷ [])
-    × (listing 2048 refusal-17 ≡ 26 ∷ 89 ∷ 848520862932588235 ∷ 17 ∷ [])
-    × (listing 2048 refusal-18 ≡ 44 ∷ 155 ∷ 1939675474280980748 ∷ 18 ∷ [])
-    × (listing 2048 refusal-19 ≡ 44 ∷ 155 ∷ 1757649603618528351 ∷ 19 ∷ [])
-    × (listing 2048 refusal-20 ≡ 103 ∷ 398 ∷ 622370867021432412 ∷ 20 ∷ [])
+    (listing 2048 fscod-3 ≡ 4 ∷ 40 ∷ 29579453722108996 ∷ 3 ∷ 0 ∷ 0 ∷ [])
+    × (listing 2048 refusal-1 ≡ 0 ∷ 0 ∷ 0 ∷ 1 ∷ 0 ∷ 0 ∷ [])
+    × (listing 2048 refusal-2 ≡ 1 ∷ 16 ∷ 352286885166436349 ∷ 2 ∷ 0 ∷ 0 ∷ [])
+    × (listing 2048 refusal-4 ≡ 4 ∷ 40 ∷ 40781722323852877 ∷ 4 ∷ 0 ∷ 0 ∷ [])
+    × (listing 2048 refusal-5 ≡ 5 ∷ 45 ∷ 1373352214628650087 ∷ 5 ∷ 0 ∷ 0 ∷ [])
+    × (listing 2048 refusal-6-skip ≡ 45 ∷ 163 ∷ 2287202142014331790 ∷ 6 ∷ 110 ∷ 1 ∷ [])
+    × (listing 2048 refusal-6-field ≡ 93 ∷ 1022 ∷ 1793998605553555400 ∷ 6 ∷ 76 ∷ 1 ∷ [])
+    × (listing 2048 refusal-6-block-5 ≡ 90 ∷ 1024 ∷ 2167868889333793135 ∷ 6 ∷ 49 ∷ 6 ∷ [])
+    × (listing 2048 refusal-6-skip-5 ≡ 95 ∷ 213 ∷ 2009555243386366642 ∷ 6 ∷ 110 ∷ 6 ∷ [])
+    × (listing 2048 refusal-6-walk-5 ≡ 97 ∷ 1017 ∷ 27516514050212150 ∷ 6 ∷ 111 ∷ 6 ∷ [])
+    × (listing 2048 refusal-6-walk ≡ 45 ∷ 1019 ∷ 772336669383944041 ∷ 6 ∷ 111 ∷ 1 ∷ [])
+    × (listing 2048 refusal-6-coupled ≡ 91 ∷ 1023 ∷ 406237143950309278 ∷ 6 ∷ 111 ∷ 1 ∷ [])
+    × (listing 2048 refusal-6-late ≡ 101 ∷ 1024 ∷ 2113091840523649115 ∷ 6 ∷ 109 ∷ 6 ∷ [])
+    × (listing 2048 refusal-6-late-walk ≡ 97 ∷ 1017 ∷ 27516514050212150 ∷ 6 ∷ 111 ∷ 6 ∷ [])
+    × (listing 210 stereo ≡ 210 ∷ 1254 ∷ 1819588965046830427 ∷ 7 ∷ 0 ∷ 0 ∷ [])
+    × (listing 3 fscod-3 ≡ 3 ∷ 34 ∷ 1747240727870654386 ∷ 7 ∷ 0 ∷ 0 ∷ [])
+    × (listing 2048 refusal-8 ≡ 21 ∷ 69 ∷ 1081658256954631330 ∷ 8 ∷ 0 ∷ 0 ∷ [])
+    × (listing 2048 refusal-9 ≡ 25 ∷ 79 ∷ 124803676312919335 ∷ 9 ∷ 0 ∷ 0 ∷ [])
+    × (listing 2048 refusal-10 ≡ 25 ∷ 79 ∷ 832235487675882048 ∷ 10 ∷ 0 ∷ 0 ∷ [])
+    × (listing 2048 refusal-11 ≡ 24 ∷ 78 ∷ 1425268850680990827 ∷ 11 ∷ 0 ∷ 0 ∷ [])
+    × (listing 2048 refusal-12 ≡ 23 ∷ 72 ∷ 1271932964578572975 ∷ 12 ∷ 0 ∷ 0 ∷ [])
+    × (listing 2048 refusal-13 ≡ 40 ∷ 101 ∷ 234763683109086067 ∷ 13 ∷ 0 ∷ 0 ∷ [])
+    × (listing 2048 refusal-14 ≡ 46 ∷ 120 ∷ 521513078694644625 ∷ 14 ∷ 0 ∷ 0 ∷ [])
+    × (listing 2048 refusal-15 ≡ 35 ∷ 141 ∷ 1600166967492640722 ∷ 15 ∷ 0 ∷ 0 ∷ [])
+    × (listing 2048 refusal-16 ≡ 26 ∷ 89 ∷ 1814820017003890421 ∷ 16 ∷ 0 ∷ 0 ∷ [])
+    × (listing 2048 refusal-17 ≡ 26 ∷ 89 ∷ 848520862932588235 ∷ 17 ∷ 0 ∷ 0 ∷ [])
+    × (listing 2048 refusal-18 ≡ 44 ∷ 155 ∷ 1939675474280980748 ∷ 18 ∷ 0 ∷ 0 ∷ [])
+    × (listing 2048 refusal-19 ≡ 44 ∷ 155 ∷ 1757649603618528351 ∷ 19 ∷ 0 ∷ 0 ∷ [])
+    × (listing 2048 refusal-20 ≡ 103 ∷ 398 ∷ 622370867021432412 ∷ 20 ∷ 0 ∷ 0 ∷ [])
+    × (listing 2048 refusal-21 ≡ 26 ∷ 75 ∷ 878359410002101658 ∷ 21 ∷ 0 ∷ 0 ∷ [])
+    × (listing 2048 refusal-22 ≡ 33 ∷ 127 ∷ 2175148581457006551 ∷ 22 ∷ 0 ∷ 0 ∷ [])
+    × (listing 2048 refusal-23 ≡ 40 ∷ 146 ∷ 220526504281723518 ∷ 23 ∷ 0 ∷ 0 ∷ [])
 unfolding bitAt value bitsBefore sameBits rangeEq _>>=_ turns shown except exec andThen flatten landing finish roomCheck check sum unless run continue nfchans words48 words44 words32 frameBytes slowDecay fastDecay slowGain knee floor fastGain bandEnd logAdd hearing bap bapBits from placed snrOffset psdOf mappedPsd logadd bandSum bandOf startOf endOf bandPsd integratedPsd lowcomp lowAfter rises startLeak fallTo fallBy fallLeak leakStep excitations excitation overKnee maskOf maskingCurve deltaOf passed deltaIn deltaSum deltaApplied kept threshold thresholds addressOf bapOf Allocation-pointers allocation deltaCode channelCode segment newDeltas slotDeltas codedDeltas deltas newCurve curve fineOffset channelOffset newOffsets offsets newLeak couplingLeak step unpack group exponentSet slotExponents channelExponents exponents silent Mantissas-pointers allPointers widths mantissas channelParts parts syncinfo programmeInfo alternateInfo timeCodes additionalInfo bsi header howMany coupledChannels joined couplingBands newCoupling couplingStrategy coordinate channelCoordinates phaseFlags couplingCoordinates rematrixing channelStrategies exponentStrategies bandwidth bandwidths channelEnd channelEnds channelFlags dynamicRange channelSettings couplingSection exponentSection skipField allocState allSent audioBlock audio syncframe answered bytes plusOne checksum verdict short
-refused = (refl, refl, refl, refl, refl, refl, refl, refl, refl, refl, refl, refl, refl, refl, refl, refl, refl, refl, refl, refl, refl, refl, refl, refl, refl, refl)
+refused = (refl, refl, refl, refl, refl, refl, refl, refl, refl, refl, refl, refl, refl, refl, refl, refl, refl, refl, refl, refl, refl, refl, refl, refl, refl, refl, refl, refl, refl, refl, refl, refl)

@@ -6,7 +6,9 @@ use mathlib.Core.Path.{_≡_}
 use Prim.Native.Nat.{ℕ}
 use lib.Dec.{eqb}
 use lib.IntN.{ℤ}
-use Rattle.syntax.specs.Place.{Outcome, got, no, exec, andThen, fresh}
+use Rattle.syntax.specs.declared.Refusal.{Refusal}
+use Rattle.syntax.specs.Refusals.{going}
+use Rattle.syntax.specs.Place.{Place, Outcome, got, no, exec, andThen, fresh}
 use Rattle.header.specs.Header.{header}
 use Rattle.header.specs.declared.Header.{Header}
 use Rattle.ac3.specs.Frame.{audio, noSummary, answered}
@@ -18,15 +20,20 @@ pub record HeaderAnswer : Type 0 where
   pub refusal : ℕ
   pub rows : ℕ
   pub bit : ℕ
+  pub name : ℕ
+  pub block : ℕ
   pub header : Header
 
 -- a refusal's header is all zeros
 abbrev pub noHeader : Header
 noHeader = record { bytes = 0; fscod = 0; bsid = 0; acmod = 0; lfeon = false }
 
+abbrev pub headerAt : Place → Refusal → Header → HeaderAnswer
+headerAt p x h = record { refusal = x .number; rows = p .count; bit = p .at; name = x .name; block = x .block; header = h }
+
 unfoldable pub headed : Outcome Header → HeaderAnswer × List ℤ
-headed (got h p) = (record { refusal = 0; rows = p .count; bit = p .at; header = h }, p .room)
-headed (no x p) = (record { refusal = x .number; rows = p .count; bit = p .at; header = noHeader }, p .room)
+headed (got h p) = (headerAt p going h, p .room)
+headed (no x p) = (headerAt p x noHeader, p .room)
 
 -- the header at a call's place, and the room after it
 abbrev pub headerTo : Call → HeaderAnswer × List ℤ
@@ -42,10 +49,12 @@ sameHeader a b = eqb (a .bytes) (b .bytes) && eqb (a .fscod) (b .fscod) && eqb (
 
 -- two header answers, number by number
 abbrev pub sameAnswer : HeaderAnswer → HeaderAnswer → Bool
-sameAnswer a b = eqb (a .refusal) (b .refusal) && eqb (a .rows) (b .rows) && eqb (a .bit) (b .bit) && sameHeader (a .header) (b .header)
+sameAnswer a b =
+    eqb (a .refusal) (b .refusal) && eqb (a .rows) (b .rows) && eqb (a .bit) (b .bit) && eqb (a .name) (b .name) && eqb (a .block) (b .block)
+    && sameHeader (a .header) (b .header)
 
 abbrev pub unfit : Answer
-unfit = record { refusal = 24; rows = 0; bit = 0; summary = noSummary }
+unfit = record { refusal = 24; rows = 0; bit = 0; name = 0; block = 255; summary = noSummary }
 
 -- The header is read again. A claim that is a refusal, or another answer than that, is 24, and the room is as it was; else the blocks
 -- follow.
@@ -58,7 +67,7 @@ blocksTo c claim =
 -- ---- both in turn
 
 abbrev pub endedAt : HeaderAnswer → Answer
-endedAt h = record { refusal = h .refusal; rows = h .rows; bit = h .bit; summary = noSummary }
+endedAt h = record { refusal = h .refusal; rows = h .rows; bit = h .bit; name = h .name; block = h .block; summary = noSummary }
 
 -- the blocks go by the header's answer, in the room that it leaves; a header refusal ends it
 unfoldable pub inTurn : Call → Answer × List ℤ

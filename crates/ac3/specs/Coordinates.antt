@@ -25,7 +25,14 @@ flaggedCarry b c = record { state = c .state; exps = c .exps; tally = flagged b 
 abbrev pub flaggedAnswer : Bool → Answer → Answer
 flaggedAnswer b a =
     let s = a .summary in
-    record { refusal = a .refusal; rows = a .rows; bit = a .bit; summary = record { rows = s .rows; end = s .end; header = s .header; tally = flagged b (s .tally) } }
+    record {
+      refusal = a .refusal;
+      rows = a .rows;
+      bit = a .bit;
+      name = a .name;
+      block = a .block;
+      summary = record { rows = s .rows; end = s .end; header = s .header; tally = flagged b (s .tally) };
+    }
 
 -- any rule that makes the flag after a block: of the block's number and of what is carried before it and after it
 abbrev pub Rule : Type 0
@@ -52,7 +59,7 @@ module _ (rule : Rule) where
   abbrev pub answerBy : Call → Answer × List ℤ
   answerBy c = answered (exec frameBy (input c) (fresh (c .room)))
 
--- the same refusal, rows, bit and summary but for the flag, and the same room
+-- the same refusal, rows, bit, name, block and summary but for the flag, and the same room
 abbrev pub CoordinatesIdle : Type 0
 CoordinatesIdle = (rule : Rule) (c : Call)
     → (flaggedAnswer false (answerBy rule c .0) ≡ flaggedAnswer false (answerTo c .0)) × (answerBy rule c .1 ≡ answerTo c .1)

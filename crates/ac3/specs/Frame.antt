@@ -4,6 +4,8 @@ use mathlib.Core.List.{List}
 use Prim.Native.Nat.{ℕ}
 use lib.IntN.{ℤ, pos}
 use lib.ListN.{replicate, drop}
+use Rattle.syntax.specs.declared.Refusal.{Refusal}
+use Rattle.syntax.specs.Refusals.{going}
 use Rattle.syntax.specs.Grammar.{Grammar, done, _>>=_, position, for}
 use Rattle.syntax.specs.Place.{Place, Outcome, got, no, exec, fresh}
 use Rattle.header.specs.Header.{header}
@@ -69,9 +71,13 @@ noSummary =
       tally = record { coupled = 0; coordinates = false; starts = replicate 6 0; mantissas = replicate 6 0 };
     }
 
+-- a refusal is told by its three numbers, and of what is accepted those of `going`
+abbrev pub answerAt : Place → Refusal → Summary → Answer
+answerAt p x summary = record { refusal = x .number; rows = p .count; bit = p .at; name = x .name; block = x .block; summary = summary }
+
 unfoldable pub answered : Outcome Audio → Answer × List ℤ
-answered (got a p) = (record { refusal = 0; rows = p .count; bit = p .at; summary = summaryOf (p .count) a }, p .room)
-answered (no x p) = (record { refusal = x .number; rows = p .count; bit = p .at; summary = noSummary }, p .room)
+answered (got a p) = (answerAt p going (summaryOf (p .count) a), p .room)
+answered (no x p) = (answerAt p x noSummary, p .room)
 
 -- the frame at this byte of a capture: past the end there is nothing, which is too short
 abbrev pub answer : (capture : List ℕ) (place : ℕ) (room : List ℤ) → Answer × List ℤ

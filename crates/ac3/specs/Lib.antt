@@ -4,6 +4,7 @@ pub mod Marked
 pub mod AtMost
 pub mod Values
 pub mod Promise
+pub mod Unfitting
 pub mod Rooms
 pub mod Useless
 pub mod RowBound

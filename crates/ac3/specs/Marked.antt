@@ -1,6 +1,6 @@
 -- No part of the definition: what can be said of a grammar by looking through it, and words for it that statements use. Exactly the
 -- editable names are read as values that steer nothing, exactly the spans as spans, by name and by role, and every refusal has one of the
--- twenty numbers.
+-- twenty-three numbers, and tells no name and no block unless it is 6, which is not the grammar's to give.
 use mathlib.Core.Bool.{Bool, false, not, _&&_, _||_}
 use mathlib.Core.List.{List, [], _∷_}
 use Prim.Native.Nat.{ℕ}
@@ -12,6 +12,7 @@ use Rattle.syntax.specs.Grammar.{Grammar, done, refuse, field, free, span, walk
 use Rattle.syntax.specs.Run.{Kind, steering, unsteering, spanning, Row, Check, clear, stop, End, reached, refused}
 use Rattle.syntax.specs.Names.{editable, spans}
 use Rattle.syntax.specs.Numbers.{roleNumbers}
+use Rattle.syntax.specs.Unfitting.{isJudged}
 
 -- is the name in the list?
 abbrev pub among : ℕ → List ℕ → Bool
@@ -41,7 +42,7 @@ KindsFit [] = Unit {0}
 KindsFit (r ∷ rs) = T (kindFits (r .kind) (r .item .name)) × T (roleFits (r .kind) (r .item .role)) × KindsFit rs
 
 abbrev pub numberFits : ℕ → Bool
-numberFits n = leb 1 n && leb n 20
+numberFits n = leb 1 n && leb n 23
 
 -- a refusal, if it is one, is numbered
 abbrev pub StopFits : Check → Type 0
@@ -52,13 +53,13 @@ abbrev pub EndFits : {A : Type 0} → End A → Type 0
 EndFits (reached a) = Unit {0}
 EndFits (refused x) = T (numberFits (x .number))
 
--- every field that the grammar can meet is of its name's and its role's kind, and every refusal is numbered
+-- every field that the grammar can meet is of its name's and its role's kind, and every refusal is numbered and judged
 pub data Marked {A : Type 0} : Grammar A → Type 0 where
   m-done : {a : A} → Marked (done a)
-  m-refuse : {x : Refusal} → T (numberFits (x .number)) → Marked (refuse x)
+  m-refuse : {x : Refusal} → T (numberFits (x .number)) → T (isJudged x) → Marked (refuse x)
   m-field : {i : Item} {w : ℕ} {k : ℕ → Grammar A} → T (kindFits steering (i .name)) → T (roleFits steering (i .role)) → ((v : ℕ) → Marked (k v)) → Marked (field i w k)
   m-free : {i : Item} {w : ℕ} {k : Grammar A} → T (kindFits unsteering (i .name)) → T (roleFits unsteering (i .role)) → Marked k → Marked (free i w k)
   m-span : {i : Item} {w : ℕ} {k : Grammar A} → T (kindFits spanning (i .name)) → T (roleFits spanning (i .role)) → Marked k → Marked (span i w k)
   m-walk : {i : Item} {ws : List ℕ} {k : Grammar A} → T (kindFits spanning (i .name)) → T (roleFits spanning (i .role)) → Marked k → Marked (walk i ws k)
-  m-frame : {x : Refusal} {n : ℕ} {k : Grammar A} → T (numberFits (x .number)) → Marked k → Marked (frame x n k)
+  m-frame : {x : Refusal} {n : ℕ} {k : Grammar A} → T (numberFits (x .number)) → T (isJudged x) → Marked k → Marked (frame x n k)
   m-here : {k : ℕ → Grammar A} → ((at : ℕ) → Marked (k at)) → Marked (here k)

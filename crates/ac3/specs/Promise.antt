@@ -11,6 +11,7 @@ use Rattle.syntax.specs.Numbers.{rowWidth}
 use Rattle.syntax.specs.Place.{flatten}
 use Rattle.syntax.specs.Demand3.{Alike}
 use Rattle.syntax.specs.Rows.{isSpan, values, Tiles, Agree, ProperBeginning}
+use Rattle.syntax.specs.Unfitting.{Neither}
 use Rattle.syntax.specs.Run.{Row, Accepts, refused, parse, rowsOf, endOf}
 use Rattle.ac3.specs.Frame.{syncframe, summaryOf, noSummary, answer}
 use Rattle.ac3.specs.declared.Answer.{Answer}
@@ -46,14 +47,20 @@ bitOf c = endOf syncframe (input c) (roomFor c)
 abbrev pub Reaches : Call → Type 0
 Reaches c = Accepts syncframe (input c) (roomFor c)
 
+-- the refusal that an answer tells by three of its numbers
+abbrev pub refusalOf : Answer → Refusal
+refusalOf a = record { number = a .refusal; name = a .name; block = a .block }
+
 pub record Promised (c : Call) (a : Answer) (after : List ℤ) : Type 0 where
-  -- accepted, or one of twenty refusals
-  pub numbered : a .refusal ≤ 20
+  -- accepted, or one of twenty-three refusals
+  pub numbered : a .refusal ≤ 23
   -- accepted exactly when the definition reaches audio_end within frame and room
   pub sound : a .refusal ≡ 0 → Reaches c
   pub complete : Reaches c → a .refusal ≡ 0
-  -- and else refused with the number that the definition gives
-  pub which : (x : Refusal) → parse syncframe (input c) (roomFor c) .end ≡ refused x → a .refusal ≡ x .number
+  -- and else refused as the definition does: the number, and the name and the block of what did not fit
+  pub which : (x : Refusal) → parse syncframe (input c) (roomFor c) .end ≡ refused x → refusalOf a ≡ x
+  -- which refusal 6 alone tells
+  pub others : ¬ (a .refusal ≡ 6) → Neither (a .name) (a .block)
   -- the rows are the definition's list, in front, and the rest of the room is as it was
   pub written : after ≡ flatten (listed c) ++ drop (length (listed c) * rowWidth) (c .room)
   -- the row count is that list's length, and the bit is the first one not yet read

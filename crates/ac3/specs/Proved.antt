@@ -2,7 +2,7 @@
 -- `ac3::parse` says that its answer and the room at exit are `answerTo` of the call, so each of them is about what a caller gets.
 --
 -- A call is a capture, a place in it and the room that is lent. Its input is the capture from the place on. `answerTo c` is the answer (a
--- refusal's number or 0, the rows written, the bit reached, a summary) and the room after it. `listed c` is the definition's own list of
+-- refusal's number or 0, the rows written, the bit reached, what did not fit, a summary) and the room after it. `listed c` is the definition's own list of
 -- rows.
 use Rattle.syntax.specs.Demand3.{Demand3}
 use Rattle.syntax.specs.Later.{OnlyWhatWasRead}
@@ -17,6 +17,7 @@ use Rattle.ac3.specs.OneAnswer.{OneAnswer}
 use Rattle.ac3.specs.Promise.{Call, Promised, listed, bitOf, answerTo, Accepted, Demand3OfAnswers}
 use Rattle.ac3.specs.Rooms.{SpansByRole, Demand3OfRooms}
 use Rattle.ac3.specs.RowBound.{RowBound}
+use Rattle.ac3.specs.Unfitting.{WhatDidNotFit}
 use Rattle.ac3.specs.Useless.{NoneUseless}
 use Rattle.ac3.specs.Values.{ValuesOnEachSide}
 use Rattle.ac3.specs.Within.{KeptWithin}
@@ -24,10 +25,12 @@ use Rattle.ac3.specs.Within.{KeptWithin}
 pub record Proved : Type 1 where
   -- ---- what an answer is
 
-  -- Demands 1 and 2. Every call, whatever its bytes, place and room, is answered: accepted or one of twenty refusals, accepted exactly when
-  -- the definition reaches the end of the audio within frame and room; the rows are the definition's, in front of the room, and no other
-  -- number of it is touched.
+  -- Demands 1 and 2. Every call, whatever its bytes, place and room, is answered: accepted or one of twenty-three refusals, accepted exactly
+  -- when the definition reaches the end of the audio within frame and room; the rows are the definition's, in front of the room, and no
+  -- other number of it is touched.
   pub promised : (c : Call) → Promised c (answerTo c .0) (answerTo c .1)
+  -- Refusal 6 tells the name and the block of the row that the definition would have written next; every other answer tells neither.
+  pub what-did-not-fit : WhatDidNotFit
   -- What follows for everyone who keeps that promise: no more rows than there is room for, no bit past the frame, no frame past the input.
   pub within : KeptWithin
   -- Any two answers that a promise allows coincide, of this function and of every other that is public.

@@ -8,6 +8,7 @@ use slots::AllocState;
 use slots::Coupling;
 use slots::Cover;
 use syntax::Cursor;
+use syntax::NONE;
 use syntax::cursors::START;
 use syntax::cursors::halt;
 use syntax::refusals::TOO_SHORT;
@@ -45,22 +46,27 @@ pub struct Summary {
     pub tally: Tally,
 }
 
-// Refusal 0: accepted. The bit is the first one not yet read, audio_end if accepted.
+// Refusal 0: accepted. The bit is the first one not yet read, audio_end if accepted. Refusal 6 tells the name and the block of what did not
+// fit; every other answer has name 0 and no block.
 pub struct Answer {
     pub refusal: u8,
     pub rows: usize,
     pub bit: u16,
+    pub name: u8,
+    pub block: u8,
     pub summary: Summary,
 }
 
 // The answer where reading stopped: its summary is all zeros.
 fn refused(c: Cursor) -> Answer
-    ensures { λ r. ⌜ r ≡ record { refusal = c .stop .number; rows = c .count; bit = c .at; summary = grammar.noSummary } ⌝ }
+    ensures { λ r. ⌜ r ≡ record { refusal = c .stop .number; rows = c .count; bit = c .at; name = c .stop .name; block = c .stop .block; summary = grammar.noSummary } ⌝ }
 {
     Answer {
         refusal: c.stop.number,
         rows: c.count,
         bit: c.at,
+        name: c.stop.name,
+        block: c.stop.block,
         summary: Summary {
             rows: 0,
             end: 0,
@@ -103,6 +109,8 @@ fn syncframe(s: &[u8], rows: &mut [i32]) -> Answer
         refusal: 0,
         rows: count,
         bit: end,
+        name: 0,
+        block: NONE,
         summary: Summary {
             rows: count,
             end,

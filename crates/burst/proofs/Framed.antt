@@ -21,12 +21,12 @@ use Rattle.syntax.specs.Grammar.{Grammar, done, refuse, field, free, span, walk
 use Rattle.syntax.specs.Later.{Past, TooShort, sized, resized}
 use Rattle.syntax.specs.Place.{Place, finish}
 use Rattle.syntax.specs.Rows.{Tiles}
-use Rattle.syntax.specs.Run.{Row, Spot, End, reached, refused, Result, Check, clear, stop, unless, run, rowCheck, walkCheck, frameCheck, sum, beyond, within, start, parse, endOf}
+use Rattle.syntax.specs.Run.{Row, Spot, End, reached, Result, Check, clear, stop, unless, run, rowCheck, walkCheck, frameCheck, sum, beyond, within, start, parse, endOf}
 use Rattle.syntax.proofs.Later.{only-what-was-read, appending}
 use Rattle.header.specs.Header.{syncinfo, bsi, header}
 use Rattle.header.specs.declared.Header.{Header}
 use Rattle.ac3.specs.AtMost.{AtMost, a-done, a-refuse, a-field, a-free, a-span, a-walk, a-frame, a-here}
-use Rattle.ac3.specs.Frame.{Audio, audio, syncframe, summaryOf, noSummary, answered}
+use Rattle.ac3.specs.Frame.{Audio, audio, syncframe, answered}
 use Rattle.ac3.specs.Later.{longest, appendTo}
 use Rattle.ac3.specs.Promise.{Call, input, roomFor, listed, bitOf, answerTo, Accepted, Promised}
 use Rattle.ac3.specs.Within.{Within}
@@ -34,6 +34,7 @@ use Rattle.ac3.specs.declared.Answer.{Answer}
 use Rattle.ac3.proofs.AtMost as bounds
 use Rattle.ac3.proofs.Later.{later-bytes}
 use Rattle.ac3.proofs.Promise.{promised, result, landed, answer-is}
+use Rattle.ac3.proofs.Rooms.{same-answer}
 use Rattle.ac3.proofs.RowBound.{a-bsi, a-audio}
 use Rattle.ac3.proofs.Within.{kept-within}
 use Rattle.rows.specs.Found.{opening}
@@ -238,12 +239,7 @@ tiles-forward (r ∷ rows) from to t = omega (arith, tiles-forward rows (from + 
 
 -- an answer is told by the rows, the bit and the end
 told-of : (e e′ : End Audio) (p p′ : Place) → e ≡ e′ → p .count ≡ p′ .count → p .at ≡ p′ .at → answered (finish e p) .0 ≡ answered (finish e′ p′) .0
-unfolding answered finish
-told-of e e′ p p′ end count at = same e p p′ count at ∙ ap (λ e. answered (finish e p′) .0) end
-  where
-    same : (e : End Audio) (p p′ : Place) → p .count ≡ p′ .count → p .at ≡ p′ .at → answered (finish e p) .0 ≡ answered (finish e p′) .0
-    same (reached a) p p′ count at = λ i. record { refusal = 0; rows = count i; bit = at i; summary = summaryOf (count i) a }
-    same (refused x) p p′ count at = λ i. record { refusal = x .number; rows = count i; bit = at i; summary = noSummary }
+told-of e e′ p p′ end count at = same-answer e p p′ count at ∙ ap (λ e. answered (finish e p′) .0) end
 
 module _ (c : Call) (ok : Accepted c) where
   abbrev s : List ℕ

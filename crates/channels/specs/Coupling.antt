@@ -6,7 +6,7 @@ use lib.Dec.{eqb, ltb}
 use lib.ListN.{getD, replicate}
 use Rattle.syntax.specs.Grammar.{Grammar, announced, done, _>>=_, _>>_, one, nth, take, flag, note, refuseIf, when, readIf, for, each, fill}
 use Rattle.syntax.specs.Names as Name
-use Rattle.syntax.specs.Refusals.{notAnnounced, badCouplingRange, tooFewCoupled}
+use Rattle.syntax.specs.Refusals.{noCouplingStrategy, noRematrixing, badCouplingRange, tooFewCoupled}
 use Rattle.slots.specs.declared.Coupling.{Coupling}
 use Rattle.slots.specs.Slots.{subBands, rangeEmpty, coupled}
 
@@ -49,7 +49,7 @@ newCoupling blk acmod nfchans = do
 -- cplstre (4.4.3.7)
 unfoldable pub couplingStrategy : (blk acmod nfchans : ℕ) → Coupling → Grammar Coupling
 couplingStrategy blk acmod nfchans old = do
-  cplstre ← announced blk Name.cplstre notAnnounced
+  cplstre ← announced blk Name.cplstre noCouplingStrategy
   readIf cplstre old do
     cplinu ← flag (one blk Name.cplinu)
     readIf cplinu (uncoupled old) (newCoupling blk acmod nfchans)
@@ -87,5 +87,5 @@ rematrixBands c = cond (not (c .cplinu) || ltb 2 (c .cplbegf)) 4 (cond (ltb 0 (c
 
 unfoldable pub rematrixing : (blk acmod : ℕ) → Coupling → Grammar (Unit {0})
 rematrixing blk acmod c = when (eqb acmod 2) do
-  rematstr ← announced blk Name.rematstr notAnnounced
+  rematstr ← announced blk Name.rematstr noRematrixing
   when rematstr (each (rematrixBands c) (λ rbnd. note (nth blk Name.rematflg rbnd) 1))

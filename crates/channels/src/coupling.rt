@@ -11,7 +11,7 @@ use syntax::names::*;
 use syntax::readers::flag;
 use syntax::readers::take;
 use syntax::refusals::BAD_COUPLING_RANGE;
-use syntax::refusals::NOT_ANNOUNCED;
+use syntax::refusals::NO_COUPLING_STRATEGY;
 use syntax::refusals::TOO_FEW_COUPLED;
 ghost use mathlib.Core.Path.{_≡_};
 ghost use Prim.Native.Nat.{_<_, _≤_};
@@ -151,7 +151,7 @@ pub fn coupling_strategy(
     ensures { λ r. ⌜ SoundCoupling (r .coupling) ⌝ }
     ensures { λ r. ⌜ SoundBands (r .coupling) ⌝ }
 {
-    let cplstre = announced(s, rows, c, blk, CPLSTRE, NOT_ANNOUNCED);
+    let cplstre = announced(s, rows, c, blk, CPLSTRE, NO_COUPLING_STRATEGY);
     let cursor = cplstre.cursor;
     if cplstre.set {
         let cplinu = flag(s, rows, cursor, one(blk, CPLINU));

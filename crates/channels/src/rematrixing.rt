@@ -4,7 +4,7 @@ use syntax::Cursor;
 use syntax::elements::announced;
 use syntax::elements::flags;
 use syntax::names::*;
-use syntax::refusals::NOT_ANNOUNCED;
+use syntax::refusals::NO_REMATRIXING;
 ghost use mathlib.Core.Path.{_≡_};
 ghost use Rattle.syntax.specs.Reads.{Reads};
 ghost use Rattle.channels.specs.Coupling as grammar;
@@ -36,7 +36,7 @@ pub fn rematrixing(
     ensures { λ r. ⌜ Reads (grammar.rematrixing blk acmod coupling) (now (s .entry)) c (now (rows .entry)) tt r (now (rows .exit)) ⌝ }
 {
     if acmod == 2 {
-        let rematstr = announced(s, rows, c, blk, REMATSTR, NOT_ANNOUNCED);
+        let rematstr = announced(s, rows, c, blk, REMATSTR, NO_REMATRIXING);
         let cursor = rematstr.cursor;
         if rematstr.set {
             flags(s, rows, cursor, blk, REMATFLG, rematrix_bands(coupling))

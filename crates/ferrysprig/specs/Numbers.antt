@@ -1,15 +1,17 @@
--- An answer as numbers: the refusal, the rows written, the bit, and the summary's 21 in the order of docs/FORMAT.md. Yes is 1.
+-- An answer as numbers: the refusal, the rows written, the bit, the summary's 21 in the order of docs/FORMAT.md, and the name and the block
+-- of what did not fit. Yes is 1.
 use mathlib.Core.Bool.{Bool, cond}
 use mathlib.Core.List.{List, [], _∷_, _++_, map}
 use Prim.Native.Nat.{ℕ}
 use lib.IntN.{ℤ, pos}
 use lib.ListN.{getD}
+use Rattle.syntax.specs.Numbers.{shown}
 use Rattle.ac3.specs.declared.Answer.{Answer}
 use Rattle.ac3.specs.declared.Summary.{Summary}
 
 -- so many are the numbers of an answer
 abbrev pub answerWidth : ℕ
-answerWidth = 24
+answerWidth = 26
 
 abbrev pub flag : Bool → ℕ
 flag b = cond b 1 0
@@ -23,14 +25,15 @@ summaryInOrder s =
     s .rows ∷ s .header .bytes ∷ s .end ∷ s .header .bsid ∷ s .header .acmod ∷ flag (s .header .lfeon) ∷ s .header .fscod ∷ s .tally .coupled
     ∷ six (s .tally .starts) ++ six (s .tally .mantissas) ++ flag (s .tally .coordinates) ∷ []
 
+-- all but the block
 unfoldable pub inOrder : Answer → List ℕ
-inOrder a = a .refusal ∷ a .rows ∷ a .bit ∷ summaryInOrder (a .summary)
+inOrder a = a .refusal ∷ a .rows ∷ a .bit ∷ summaryInOrder (a .summary) ++ a .name ∷ []
 
 unfoldable pub summaryNumbers : Summary → List ℤ
 summaryNumbers s = map pos (summaryInOrder s)
 
 unfoldable pub answerNumbers : Answer → List ℤ
-answerNumbers a = map pos (inOrder a)
+answerNumbers a = map pos (inOrder a) ++ shown (a .block) ∷ []
 
 -- the numbers of an answer, and the room after it
 abbrev pub told : Answer × List ℤ → List ℤ × List ℤ

@@ -1,5 +1,6 @@
 // The functions that Rust and C call. An exported function can take no enum and nothing that leads to one, so answers go as numbers.
 use ac3::Answer;
+use syntax::rows::shown;
 ghost use mathlib.Core.Path.{_≡_};
 ghost use Prim.Native.Nat.{_≤_};
 ghost use Rattle.bits.specs.Bits.{rangeEq};
@@ -11,8 +12,10 @@ ghost use Rattle.ferrysprig.specs.Bursts.{burstInOrder, burstNumbers, bu
 ghost use Rattle.ferrysprig.specs.Numbers.{flag, inOrder, answerNumbers, told};
 ghost use Rattle.ferrysprig.specs.Promise.{PromisedNumbers};
 
-// The numbers of an answer, and of one about a burst.
-pub const ANSWER: usize = 24;
+// The numbers of an answer, and of one about a burst. The block of what did not fit stands after those that are never negative.
+pub const ANSWER: usize = BLOCK + 1;
+
+const BLOCK: usize = 25;
 
 pub const BURST_ANSWER: usize = 3;
 
@@ -22,8 +25,8 @@ fn flag(b: bool) -> u16
     if b { 1 } else { 0 }
 }
 
-// The numbers of an answer in their order. None is large: no frame has more than 4,067 rows.
-fn in_order(a: Answer) -> [u16; ANSWER]
+// The numbers of an answer in their order, but for the block. None is large: no frame has more than 4,067 rows.
+fn in_order(a: Answer) -> [u16; BLOCK]
     requires { ⌜ (a .rows ≤ mostRows) × (a .summary .rows ≤ mostRows) ⌝ }
     ensures { λ r. ⌜ r ≡ inOrder a ⌝ }
 {
@@ -57,10 +60,11 @@ fn in_order(a: Answer) -> [u16; ANSWER]
         mantissas[4],
         mantissas[5],
         flag(tally.coordinates),
+        a.name as u16,
     ]
 }
 
-// The same as the caller reads them.
+// All of them as the caller reads them.
 fn numbers(a: Answer) -> [i32; ANSWER]
     requires { ⌜ (a .rows ≤ mostRows) × (a .summary .rows ≤ mostRows) ⌝ }
     ensures { λ r. ⌜ r ≡ answerNumbers a ⌝ }
@@ -68,6 +72,7 @@ fn numbers(a: Answer) -> [i32; ANSWER]
     let small = in_order(a);
     let mut out = [0i32; ANSWER];
     writer::numbers(&small, &mut out);
+    out[BLOCK] = shown(a.block);
     out
 }
 

@@ -1,8 +1,10 @@
 // Lists one frame: reads it from standard input (at most 3,840 bytes, later ones are not read), parses it with room for 2,048 rows, and
-// prints each row's numbers and a last line, `audio ROWS BYTES AUDIO_END` or `refused NUMBER ROWS BIT`.
+// prints each row's numbers and a last line, `audio ROWS BYTES AUDIO_END` or `refused NUMBER ROWS BIT NAME BLOCK`.
+use ac3::Answer;
 use libc::STDIN_FILENO;
 use libc::STDOUT_FILENO;
 use syntax::ROW;
+use syntax::rows::shown;
 ghost use mathlib.Core.Path.{_≡_};
 ghost use Prim.Native.Nat.{_<_};
 ghost use lib.ListN.{length};
@@ -86,13 +88,34 @@ fn put_next(line: &mut [u8; LINE], at: usize, n: usize) -> usize {
 }
 
 // A word and three numbers.
-fn print_last(word: &[u8], a: usize, b: usize, c: usize) {
+fn put_last(line: &mut [u8; LINE], word: &[u8], a: usize, b: usize, c: usize) -> usize {
+    let said = put_text(line, 0, word);
+    let first = put_next(line, said, a);
+    let second = put_next(line, first, b);
+    put_next(line, second, c)
+}
+
+fn print_audio(rows: usize, bytes: usize, end: usize) {
     let mut line = [0u8; LINE];
-    let said = put_text(&mut line, 0, word);
-    let first = put_next(&mut line, said, a);
-    let second = put_next(&mut line, first, b);
-    let third = put_next(&mut line, second, c);
-    let end = put(&mut line, third, b'\n');
+    let said = put_last(&mut line, b"audio", rows, bytes, end);
+    let end = put(&mut line, said, b'\n');
+    print(line, end);
+}
+
+// The refusal, and the name and the block of what did not fit.
+fn print_refused(a: Answer) {
+    let mut line = [0u8; LINE];
+    let said = put_last(
+        &mut line,
+        b"refused",
+        a.refusal as usize,
+        a.rows,
+        a.bit as usize,
+    );
+    let named = put_next(&mut line, said, a.name as usize);
+    let next = put(&mut line, named, b' ');
+    let placed = put_number(&mut line, next, shown(a.block));
+    let end = put(&mut line, placed, b'\n');
     print(line, end);
 }
 
@@ -115,13 +138,12 @@ fn main() {
     let n = io::read_full(STDIN_FILENO, &mut frame);
     let answer = ac3::parse(&frame[..n], 0, &mut rows);
     let count = answer.rows;
-    let bit = answer.bit as usize;
     print_rows(&rows, count);
     if answer.refusal == 0 {
         let summary = answer.summary;
         let header = summary.header;
-        print_last(b"audio", count, header.bytes as usize, bit);
+        print_audio(count, header.bytes as usize, answer.bit as usize);
     } else {
-        print_last(b"refused", answer.refusal as usize, count, bit);
+        print_refused(answer);
     }
 }

@@ -6,7 +6,7 @@ use lib.ListN.{set}
 use Rattle.syntax.specs.Grammar.{Grammar, announced, done, _>>=_, _>>_, one, nth, take, flag, readIf, for}
 use Rattle.syntax.specs.declared.Item.{Item}
 use Rattle.syntax.specs.Names as Name
-use Rattle.syntax.specs.Refusals.{notAnnounced}
+use Rattle.syntax.specs.Refusals.{noCurve, noOffsets}
 use Rattle.slots.specs.Slots.{CPL, LFE}
 use Rattle.slots.specs.declared.Curve.{Curve}
 use Rattle.slots.specs.declared.Offsets.{Offsets}
@@ -23,7 +23,7 @@ newCurve blk = do
 
 unfoldable pub curve : (blk : ℕ) → Curve → Grammar Curve
 curve blk old = do
-  baie ← announced blk Name.baie notAnnounced
+  baie ← announced blk Name.baie noCurve
   readIf baie old (newCurve blk)
 
 -- the fine offset and the fast gain of a slot
@@ -50,7 +50,7 @@ newOffsets blk nfchans cplinu lfeon old = do
 
 unfoldable pub offsets : (blk nfchans : ℕ) (cplinu lfeon : Bool) → Offsets → Grammar Offsets
 offsets blk nfchans cplinu lfeon old = do
-  snroffste ← announced blk Name.snroffste notAnnounced
+  snroffste ← announced blk Name.snroffste noOffsets
   readIf snroffste old (newOffsets blk nfchans cplinu lfeon old)
 
 unfoldable pub newLeak : (blk : ℕ) → Grammar CouplingLeak

@@ -5,7 +5,7 @@ use syntax::elements::announced;
 use syntax::items::one;
 use syntax::names;
 use syntax::readers::take;
-use syntax::refusals::NOT_ANNOUNCED;
+use syntax::refusals::NO_CURVE;
 ghost use Rattle.syntax.specs.Reads.{Reads};
 ghost use Rattle.slots.specs.Sound.{SoundCurve};
 ghost use Rattle.parameters.specs.Parameters as grammar;
@@ -42,7 +42,7 @@ pub fn curve(s: &[u8], rows: &mut [i32], c: Cursor, blk: u8, old: Curve) -> Curv
     ensures { λ r. ⌜ Reads (grammar.curve blk old) (now (s .entry)) c (now (rows .entry)) (r .curve) (r .cursor) (now (rows .exit)) ⌝ }
     ensures { λ r. ⌜ SoundCurve (r .curve) ⌝ }
 {
-    let baie = announced(s, rows, c, blk, names::BAIE, NOT_ANNOUNCED);
+    let baie = announced(s, rows, c, blk, names::BAIE, NO_CURVE);
     let cursor = baie.cursor;
     if baie.set {
         return new_curve(s, rows, cursor, blk);

@@ -9,7 +9,7 @@ use syntax::items::nth;
 use syntax::items::one;
 use syntax::names;
 use syntax::readers::take;
-use syntax::refusals::NOT_ANNOUNCED;
+use syntax::refusals::NO_OFFSETS;
 ghost use Prim.Native.Nat.{_<_, _≤_};
 ghost use Rattle.syntax.specs.Grammar.{one, nth, readIf, for};
 ghost use Rattle.syntax.specs.Reads.{Reads};
@@ -165,7 +165,7 @@ pub fn offsets(
     ensures { λ r. ⌜ Reads (grammar.offsets blk nfchans cplinu lfeon old) (now (s .entry)) c (now (rows .entry)) (r .offsets) (r .cursor) (now (rows .exit)) ⌝ }
     ensures { λ r. ⌜ SoundOffsets (r .offsets) ⌝ }
 {
-    let snroffste = announced(s, rows, c, blk, names::SNROFFSTE, NOT_ANNOUNCED);
+    let snroffste = announced(s, rows, c, blk, names::SNROFFSTE, NO_OFFSETS);
     let cursor = snroffste.cursor;
     if snroffste.set {
         return new_offsets(s, rows, cursor, blk, nfchans, cplinu, lfeon, old);

@@ -39,9 +39,18 @@ badBsid = judged 5
 
 -- ---- audio blocks
 
--- block 0 lacks a flag that announces what it needs
-abbrev pub notAnnounced : Refusal
-notAnnounced = judged 8
+-- block 0 lacks a flag that announces what it needs: cplstre, rematstr, baie, snroffste
+abbrev pub noCouplingStrategy : Refusal
+noCouplingStrategy = judged 8
+
+abbrev pub noRematrixing : Refusal
+noRematrixing = judged 21
+
+abbrev pub noCurve : Refusal
+noCurve = judged 22
+
+abbrev pub noOffsets : Refusal
+noOffsets = judged 23
 
 abbrev pub badCouplingRange : Refusal
 badCouplingRange = judged 9

@@ -64,9 +64,27 @@ pub const FULL: Refusal = Refusal {
 
 // ---- audio blocks
 
-// Block 0 lacks a flag that announces what it needs.
-pub const NOT_ANNOUNCED: Refusal = Refusal {
+// Block 0 lacks a flag that announces what it needs: cplstre, rematstr, baie, snroffste.
+pub const NO_COUPLING_STRATEGY: Refusal = Refusal {
     number: 8,
+    name: 0,
+    block: NONE,
+};
+
+pub const NO_REMATRIXING: Refusal = Refusal {
+    number: 21,
+    name: 0,
+    block: NONE,
+};
+
+pub const NO_CURVE: Refusal = Refusal {
+    number: 22,
+    name: 0,
+    block: NONE,
+};
+
+pub const NO_OFFSETS: Refusal = Refusal {
+    number: 23,
     name: 0,
     block: NONE,
 };

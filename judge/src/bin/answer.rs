@@ -29,7 +29,8 @@ fn main() -> io::Result<()> {
         out.write_all(listing(&got, &room).as_bytes())?;
         if given("--summary").is_some() {
             let numbers = got.numbers().map(|n| n.to_string());
-            writeln!(out, "summary {}", numbers[answer_at::SUMMARY..].join(" "))?;
+            let summary = &numbers[answer_at::SUMMARY..answer_at::NAME];
+            writeln!(out, "summary {}", summary.join(" "))?;
         }
         match &got.verdict {
             Ok(s) if all && place + s.bytes < input.len() => place += s.bytes,

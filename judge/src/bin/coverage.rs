@@ -57,6 +57,11 @@ fn main() {
         }
         println!("{line}");
     }
+    println!("\nrefusal 6 by block: at a field, at a skip field, at mantissas");
+    for block in 0..6 {
+        let [field, skipfld, mantissas] = [0, 1, 2].map(|sort| counts.of((SIX_IN, block, sort)));
+        println!("{block:5} {field:7} {skipfld:7} {mantissas:7}");
+    }
     println!("\nmode (acmod, lfeon): accepted frames");
     for acmod in 0..8 {
         let [without, with] = [0, 1].map(|lfe| counts.of((MODE, acmod, lfe)));
@@ -93,6 +98,10 @@ fn main() {
         (REFUSAL, "every refusal"),
         (SITE, "every refusal after every name where it can stand"),
         (SIX, "refusal 6 at every name of the blocks"),
+        (
+            SIX_IN,
+            "refusal 6 at a field, a skip field and mantissas of every block",
+        ),
         (SEVEN, "refusal 7 at every name"),
         (ONE_ROW_SHORT, "rows one too few"),
         (OUTSIDE, "exponents below 0 and above 24"),

@@ -216,7 +216,7 @@ pub fn parse<S: Source>(cur: &mut Cursor<'_, S>) -> Result<Summary> {
         if acmod == 2 {
             let rematstr = cur.flag("rematstr")?;
             if blk == 0 && !rematstr {
-                return no(8, "rematstr 0 in block 0");
+                return no(21, "rematstr 0 in block 0");
             }
             if rematstr {
                 let n = if !cplinu || cplbegf > 2 {
@@ -304,7 +304,7 @@ pub fn parse<S: Source>(cur: &mut Cursor<'_, S>) -> Result<Summary> {
                 cur.get("floorcod", 3)? as u8,
             ]);
         } else if blk == 0 {
-            return no(8, "baie 0 in block 0");
+            return no(22, "baie 0 in block 0");
         }
         if cur.flag("snroffste")? {
             st.csnroffst = Some(cur.get("csnroffst", 6)? as u8);
@@ -321,7 +321,7 @@ pub fn parse<S: Source>(cur: &mut Cursor<'_, S>) -> Result<Summary> {
                 st.fgaincod[LFE] = cur.get("lfefgaincod", 3)? as u8;
             }
         } else if blk == 0 {
-            return no(8, "snroffste 0 in block 0");
+            return no(23, "snroffste 0 in block 0");
         }
         if cplinu && cur.flag("cplleake")? {
             st.cplleak = Some((cur.get("cplfleak", 3)? as u8, cur.get("cplsleak", 3)? as u8));

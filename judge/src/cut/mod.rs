@@ -1,6 +1,6 @@
 //! What docs/FORMAT.md asks of a parse, answered by the published Rust cut at `audio_end`.
 //!
-//! Added to the Rust: numbers for names, roles and refusals, and the room rule (refusal 7).
+//! Added to the Rust: numbers for names, roles and refusals, the room rule (refusal 7), and what did not fit (refusal 6).
 //! `ac3` and `blocks` here are copies of the published files; to see every change:
 //! `diff -u ddpmeta/ac3.rs src/cut/ac3.rs` and the same for `blocks.rs`.
 
@@ -9,25 +9,40 @@ pub mod blocks;
 
 use crate::bits;
 use crate::layout::{answer_at, row, ANSWER, ROW};
+use crate::names;
 use crate::syntax::{Field, Role};
 
-/// A refusal: its number in docs/FORMAT.md and the Rust's own text, kept to compare with the published
-/// parser. Number 0 marks the sites that cannot be reached, as docs/FORMAT.md says.
+/// A refusal: its number in docs/FORMAT.md, the Rust's own text, kept to compare with the published
+/// parser, and what did not fit. Number 0 marks the sites that cannot be reached, as docs/FORMAT.md says.
 #[derive(Clone, Debug, PartialEq, Eq)]
 pub struct No {
     pub number: u32,
     pub text: String,
+    pub unfit: Unfit,
+}
+
+/// The field, span or mantissas that would end past the frame, at refusal 6: the number of its name, and its block, -1 in the header.
+#[derive(Clone, Copy, Debug, PartialEq, Eq)]
+pub struct Unfit {
+    pub name: i32,
+    pub block: i32,
+}
+
+impl Unfit {
+    /// What every other answer tells.
+    pub const NONE: Unfit = Unfit { name: 0, block: -1 };
 }
 
 pub type Result<T> = std::result::Result<T, No>;
 
 /// A frame's own refusals are 1 to this.
-pub const REFUSALS: i32 = 20;
+pub const REFUSALS: i32 = 23;
 
 pub fn no<T>(number: u32, text: impl Into<String>) -> Result<T> {
     Err(No {
         number,
         text: text.into(),
+        unfit: Unfit::NONE,
     })
 }
 
@@ -108,13 +123,18 @@ impl<'a, S: Source> Cursor<'a, S> {
         }
     }
 
-    fn check(&self, width: usize, name: &str) -> Result<()> {
+    /// Refuses a field or span of that name, or a piece of one, that would end past the frame; `what` is the Rust's word for it.
+    fn check(&self, width: usize, what: &str, name: &str) -> Result<()> {
         if self.pos + width > self.limit {
             let (pos, limit) = (self.pos, self.limit);
-            return no(
-                6,
-                format!("{name} ({width} bits) at bit {pos} beyond {limit}"),
-            );
+            return Err(No {
+                number: 6,
+                text: format!("{what} ({width} bits) at bit {pos} beyond {limit}"),
+                unfit: Unfit {
+                    name: names::number(name),
+                    block: self.block.into(),
+                },
+            });
         }
         Ok(())
     }
@@ -153,7 +173,7 @@ impl<'a, S: Source> Cursor<'a, S> {
         index: i16,
         width: usize,
     ) -> Result<u32> {
-        self.check(width, name)?;
+        self.check(width, name, name)?;
         let value = self.source.field(name, index, self.block, self.pos, width);
         self.record(name, role, index, self.pos, width, value)?;
         self.pos += width;
@@ -177,7 +197,7 @@ impl<'a, S: Source> Cursor<'a, S> {
     }
 
     pub fn span(&mut self, name: &'static str, role: Role, width: usize) -> Result<()> {
-        self.check(width, name)?;
+        self.check(width, name, name)?;
         self.record(name, role, -1, self.pos, width, 0)?;
         self.pos += width;
         Ok(())
@@ -187,9 +207,9 @@ impl<'a, S: Source> Cursor<'a, S> {
         self.record(name, role, -1, start, self.pos - start, 0)
     }
 
-    /// Pass over one mantissa or group. Its bits are never looked at.
+    /// Pass over one mantissa or group. Its bits are never looked at; it belongs to its block's mantissas, whose row comes after the walk.
     pub fn raw(&mut self, width: usize, what: &str) -> Result<()> {
-        self.check(width, what)?;
+        self.check(width, what, "mantissas")?;
         self.pos += width;
         Ok(())
     }
@@ -210,6 +230,13 @@ impl Answer {
         self.verdict.as_ref().map_or_else(|no| no.number, |_| 0)
     }
 
+    /// What did not fit.
+    pub fn unfit(&self) -> Unfit {
+        self.verdict
+            .as_ref()
+            .map_or_else(|no| no.unfit, |_| Unfit::NONE)
+    }
+
     /// The answer as numbers; the summary's are all 0 on a refusal.
     pub fn numbers(&self) -> [i32; ANSWER] {
         let mut numbers = [0; ANSWER];
@@ -219,6 +246,9 @@ impl Answer {
         if let Ok(summary) = &self.verdict {
             summary.tell(&mut numbers);
         }
+        let unfit = self.unfit();
+        numbers[answer_at::NAME] = unfit.name;
+        numbers[answer_at::BLOCK] = unfit.block;
         numbers
     }
 }

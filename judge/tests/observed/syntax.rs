@@ -18,6 +18,8 @@ pub struct Seen {
     /// Rows lent, and whether one was asked for that was not there.
     pub rows: usize,
     pub full: bool,
+    /// The Rust's word for what did not fit, and the block.
+    pub unfit: Option<(String, i8)>,
 }
 
 thread_local! {
@@ -49,6 +51,7 @@ impl<'a> Cursor<'a> {
 
     fn check(&self, width: usize, name: &str) -> Result<()> {
         if self.pos + width > self.limit {
+            seen(|seen| seen.unfit = Some((name.into(), self.block)));
             return Err(Error::Truncated(format!(
                 "{name} ({width} bits) at bit {} beyond {}",
                 self.pos, self.limit

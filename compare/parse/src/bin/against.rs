@@ -1,7 +1,7 @@
 //! against SEED SIZE [LEAST]: runs the generator from SEED on and holds the port's answer and every number of its room against the judge's.
 //! With LEAST the frames are swept as well (truncated at every byte, at every place of a longer capture, in every room), seed after seed
-//! until there were that many inputs. Prints what was compared; status 1 on a difference, or where an input to be compared by name was not,
-//! or no frame of the most rows that a frame can have.
+//! until there were that many inputs. Prints what was compared; status 1 on a difference, or where a refusal was not met, an input to be
+//! compared by name was not, or no frame of the most rows that a frame can have.
 
 use compare_parse::raw;
 use judge::agree::fresh_room;
@@ -51,7 +51,8 @@ fn main() {
             }
         }
     };
-    let (mut inputs, mut seeds, mut swept, mut named) = (0, 0, [0; 3], [0; 5]);
+    let (mut inputs, mut seeds, mut swept) = (0, 0, [0; 3]);
+    let mut named = by_name().map(|_| 0);
     let mut most_rows = 0;
     loop {
         let mut generator = Generator::new((seed + seeds) as u64, &mut compare);
@@ -82,7 +83,11 @@ fn main() {
         println!("{name}: {times}");
     }
     println!("most rows of a frame: {most_rows}");
+    let missed: Vec<usize> = (0..refused.len()).filter(|n| refused[*n] == 0).collect();
+    missed
+        .iter()
+        .for_each(|n| println!("MISSED {n} (0: accepted)"));
     println!("{differences} differences");
-    let complete = !named.contains(&0) && most_rows == MOST_ROWS;
+    let complete = missed.is_empty() && !named.contains(&0) && most_rows == MOST_ROWS;
     std::process::exit((differences > 0 || !complete) as i32);
 }

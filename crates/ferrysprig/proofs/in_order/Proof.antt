@@ -7,7 +7,7 @@ use Rattle.ferrysprig.proofs.in_order.Tie as tie
 
 entries : tie.Need-returns
 unfolding inOrder
-entries c = rw (c .flag2 .ensures, c .before .before .before .flag .ensures)
+entries c = rw (c .before .flag2 .ensures, c .before .before .before .before .flag .ensures)
 
 pub in-order-spec : {M : Type 1} → statement M
 in-order-spec =
@@ -34,4 +34,5 @@ in-order-spec =
     (λ c. search needs)  -- array-read-mantissas-5
     (λ c. search needs)  -- array-read-mantissas-6
     (λ c κs. search needs)  -- flag-requires-2
+    (λ c. search needs)  -- cast-name
     entries)

@@ -1,16 +1,30 @@
--- `ferrysprig::numbers` meets its contract: the small numbers are written over all that is there. Assumes nothing.
-use mathlib.Core.Path.{_∙_}
+-- `ferrysprig::numbers` meets its contract: the small numbers are written over all that is there but the last, and the block there.
+-- Assumes nothing.
+use mathlib.Core.List.{List, map}
+use mathlib.Core.Path.{_≡_, ap, _∙_}
+use Prim.Native.Nat.{ℕ}
+use lib.IntN.{ℤ, pos}
+use lib.ListN.{set, replicate}
+use lib.Seq.{sets}
+use mir.Syntax.{w32}
+use mir.Facts.{toZ-ofZ}
 use borrow.Author.Needs.{needs}
-use Rattle.ferrysprig.specs.Numbers.{inOrder, answerNumbers}
+use Rattle.syntax.specs.Numbers.{shown}
+use Rattle.ac3.specs.declared.Answer.{Answer}
+use Rattle.ferrysprig.specs.Numbers.{answerWidth, inOrder, answerNumbers}
 use Rattle.ferrysprig.proofs.numbers.Statement.{statement}
 use Rattle.ferrysprig.proofs.numbers.Tie as tie
 
-returns : tie.Need-returns
+filled : (a : Answer) {out : List ℤ} {small : List ℕ} → out ≡ sets (replicate answerWidth (pos 0)) 0 (map pos small) → small ≡ inOrder a
+    → set out 25 (shown (a .block)) ≡ answerNumbers a
 unfolding answerNumbers inOrder
+filled a written is = ap (λ (l : List ℤ). set l 25 (shown (a .block))) (written ∙ ap (λ (l : List ℕ). sets (replicate answerWidth (pos 0)) 0 (map pos l)) is)
+
+returns : tie.Need-returns
 returns c =
-    let n = c .before in
+    let n = c .before .before in
     let small = n .before .before .before in
-    n .numbers .ensures ∙ rw (small .in-order .ensures)
+    rw (toZ-ofZ {w = w32} {z = c .shown .result} (search needs), c .shown .ensures) (filled (small .before .args .a) (n .numbers .ensures) (small .in-order .ensures))
 
 pub numbers-spec : {M : Type 1} → statement M
 numbers-spec =
@@ -20,4 +34,6 @@ numbers-spec =
     (λ c. search needs)  -- slice-aggregate-numbers
     (λ c. search needs)  -- slice-aggregate-numbers-2
     (λ c κs. search needs)  -- numbers-requires
+    (λ c κs. search needs)  -- shown-requires
+    (λ c. search needs)  -- array-set-from-out
     returns)

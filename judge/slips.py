@@ -24,7 +24,7 @@ SLIPS = [  # what, file, old, new
     ('delta cleared by deltbaie 0 in a later block', CUT, '        } else if blk == 0 {\n            for d', '        } else {\n            for d'),
     ('coupling channels kept after cplinu 0', CUT, '                chincpl = [false; 5];\n                phsflginu', '                phsflginu'),
     # room and rows
-    ('room before the frame end', MOD, '        self.check(width, name)?;\n        let value', '        if ROW * self.count + ROW > self.room.len() { return no(7, ""); }\n        self.check(width, name)?;\n        let value'),
+    ('room before the frame end', MOD, '        self.check(width, name, name)?;\n        let value', '        if ROW * self.count + ROW > self.room.len() { return no(7, ""); }\n        self.check(width, name, name)?;\n        let value'),
     ('a row in the left-over numbers', MOD, RECORD, RECORD + '        if at < self.room.len() && at + ROW > self.room.len() { self.room[at] = 0; }\n'),
     ('refusal 7 at the start of the mantissas', MOD, '        self.record(name, role, -1, start, self.pos - start, 0)', '        let width = self.pos - start;\n        if ROW * self.count + ROW > self.room.len() { self.pos = start; }\n        self.record(name, role, -1, start, width, 0)'),
     ('no row for spans of width 0', MOD, RECORD, '        if width == 0 { return Ok(()); }\n' + RECORD),

@@ -10,7 +10,7 @@ use Rattle.exponents.proofs.groups.group.Tie as tie
 fits : tie.Need-spread-requires
 fits c κs =
     let u = c .before in
-    let b = u .before .before .before .before .before in
+    let b = u .before .before .before .before .before .before .before in
     let pre = b .before .before .pre in
     ((pre .0, rw (b .bins-each .ensures) (pre .1 .0)), (u .unpack .ensures .1 .0, pre .1 .1 .0 .row))
 
@@ -20,8 +20,9 @@ reads c =
     let w = c .before in
     let u = w .before .before in
     let t = u .before .before in
-    let b = t .before .before .before in (
-      then _ (t .take-group .ensures .0) (then _ (u .unpack .ensures .0 _ _) (rw (w .spread .ensures .0, b .bins-each .ensures) finished)),
+    let item = t .before .before in
+    let b = item .before .before in (
+      then _ (rw (item .part-of .ensures) at (t .take-group .ensures .0)) (then _ (u .unpack .ensures .0 _ _) (rw (w .spread .ensures .0, b .bins-each .ensures) finished)),
       (
         record { last = omega (arith, u .unpack .ensures .1 .0); row = w .spread .ensures .1 },
         λ sure goes. u .unpack .ensures .1 .1 goes ∙ t .take-group .ensures .1 sure,

@@ -18,7 +18,7 @@ unfolding coordinate
 again c =
     let t2 = c .before in
     let t1 = t2 .before .before .before .before in
-    let test = t1 .before .before .before .before in
+    let test = t1 .before .before .before in
     turn (test .before .loop .inv) (test .loop-test .taken) (then _ (rw (t1 .before .part-of .ensures) at (t1 .note .ensures)) (rw (t2 .before .part-of2 .ensures) at (t2 .note2 .ensures)))
 
 reads : tie.Need-returns Inv-loop μ-loop

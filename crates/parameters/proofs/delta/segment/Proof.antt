@@ -12,7 +12,7 @@ reads c =
     let t3 = w .before .before in
     let t2 = t3 .before .before .before .before in
     let t1 = t2 .before .before .before .before in
-    let n3 = t1 .before .before .before .before in
+    let n3 = t1 .before .before .before in
     let n2 = n3 .before in
     let n1 = n2 .before in (
       rw (← n1 .delta-name .ensures, ← n2 .delta-name2 .ensures, ← n3 .delta-name3 .ensures)

@@ -1,7 +1,7 @@
 //! The corner cases: each has the number that docs/FORMAT.md gives it, corners.txt is what the program
 //! prints, and every case that docs/DIFFERENCES.md shows is one of them, input and answer.
 
-use judge::agree::{Judge, Room};
+use judge::agree::Judge;
 use judge::blocks::{allocate_block, AllocState, ExpSet, SlotAlloc};
 use judge::corners::{all, text};
 use judge::layout::{row_at, ROW};
@@ -19,11 +19,7 @@ fn each_has_its_number() {
     let mut judge = Judge::default();
     let mut names = BTreeSet::new();
     for corner in all() {
-        let room = match corner.rows {
-            Some(rows) => Room::Numbers(ROW * rows),
-            None => Room::Sufficient { left_over: 0 },
-        };
-        let call = judge.call(&corner.capture, corner.place, room);
+        let call = judge.call(&corner.capture, corner.place, corner.room());
         assert_eq!(call.answer.number(), corner.number, "{}", corner.name);
         assert_eq!(call.answer.unfit(), corner.unfit, "{}", corner.name);
         assert!(names.insert(corner.name), "{} stands twice", corner.name);

@@ -111,6 +111,10 @@ fn main() {
         (STRATEGY, "every exponent strategy in every block"),
         (FEATURE, "every feature"),
         (PLACE, "every sort of place"),
+        (
+            LAST_PART,
+            "every number of bands and of segments, and the most groups",
+        ),
         (LEFT_OVER, "every number of left-over numbers"),
     ] {
         let of_kind: Vec<Goal> = required.iter().copied().filter(|g| g.0 == kind).collect();

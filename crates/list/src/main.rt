@@ -11,7 +11,7 @@ ghost use lib.ListN.{length};
 ghost use Rattle.list.specs.Lent.{rowsLent, numbersLent};
 
 // The rows that are lent, the numbers of these, and the bytes of a line: twenty digits, a sign and a space for each number of a row.
-const ROWS: usize = 2048;
+const ROWS: usize = 1820;
 
 const NUMBERS: usize = ROWS * ROW;
 

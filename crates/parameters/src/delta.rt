@@ -196,8 +196,20 @@ fn segment(
     let code_name = delta_name(slot, names::CPLDELTBA, names::DELTBA);
     let part = seg as u8;
     let deltoffst = take(s, rows, c, part_of(blk, offset_name, slot, part), 5);
-    let deltlen = take(s, rows, deltoffst.cursor, part_of(blk, length_name, slot, part), 4);
-    let deltba = take(s, rows, deltlen.cursor, part_of(blk, code_name, slot, part), 3);
+    let deltlen = take(
+        s,
+        rows,
+        deltoffst.cursor,
+        part_of(blk, length_name, slot, part),
+        4,
+    );
+    let deltba = take(
+        s,
+        rows,
+        deltlen.cursor,
+        part_of(blk, code_name, slot, part),
+        3,
+    );
     let segments = with_segment(segments, seg, deltoffst.value, deltlen.value, deltba.value);
     let cursor = deltba.cursor;
     SegmentsRead { segments, cursor }

@@ -1,4 +1,4 @@
--- `fields::row_of` meets its contract: six numbers are the record's own, and the calls give the other two. Assumes nothing.
+-- `fields::row_of` meets its contract: seven numbers are the record's own, and the calls give the other two. Assumes nothing.
 use mathlib.Core.List.{[], _∷_}
 use mathlib.Core.Path.{_≡_, refl, ap, _∙_}
 use native.Mathlib.Omega.{arith}
@@ -25,6 +25,7 @@ entries c =
     ∷ (passed {x = f .position} (search needs) refl) i
     ∷ (passed {x = f .width} (search needs) refl) i
     ∷ (passed {x = f .value} (search needs) refl) i
+    ∷ (passed {x = f .part} (search needs) refl) i
     ∷ []
 
 pub row-of-spec : {M : Type 1} → statement M

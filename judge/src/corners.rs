@@ -241,12 +241,6 @@ pub fn all() -> Vec<Corner> {
     list
 }
 
-/// The place of a case in the list.
-pub fn at(name: &str) -> i32 {
-    let at = all().iter().position(|corner| corner.name == name);
-    at.expect("a case of the list") as i32
-}
-
 /// As many parts as there can be, and as few: each of them has its own number as value, as far as the width goes.
 fn parts() -> Vec<Corner> {
     // The two channels of a pair coupled over all 18 sub-bands, merged or not.

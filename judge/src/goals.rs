@@ -5,7 +5,7 @@ use crate::corners;
 use crate::cut::{Unfit, REFUSALS};
 use crate::features::{self, FEATURES};
 use crate::layout::{row_at, NO_PART, ROW};
-use crate::names::{self, number};
+use crate::names::{self, number, Part, NAMES};
 use crate::tables::ac3_frame_words;
 use std::collections::BTreeMap;
 
@@ -77,6 +77,18 @@ const VALUES: [(&str, i32); 7] = [
     ("cpldeltba", 8),
     ("bsmod", 8),
 ];
+
+/// For the names that have bands or segments, every number of them as the last; for those that have groups, the greatest.
+fn last_parts() -> impl Iterator<Item = Goal> {
+    (1..).zip(&NAMES).flat_map(|(n, name)| {
+        let most = name.part.most();
+        let from = match name.part {
+            Part::Group(_) => most - 1,
+            _ => 0,
+        };
+        (from..most).map(move |last| (LAST_PART, n, last))
+    })
+}
 
 /// The goals that a case reaches.
 pub fn reached(case: &Case<'_>) -> Vec<Goal> {
@@ -256,14 +268,7 @@ pub fn required() -> Vec<Goal> {
     goals.extend((1..24).map(|s| (STRATEGY, s / 4, s % 4)));
     goals.extend((0..FEATURES.len() as i32).map(|f| (FEATURE, f, 0)));
     goals.extend((0..PLACES.len() as i32).map(|p| (PLACE, p, 0)));
-    for (n, name) in (1..).zip(&names::NAMES) {
-        let last = name.part.most() - 1;
-        let fewest = match name.part {
-            names::Part::Group(_) => last,
-            _ => 0,
-        };
-        goals.extend((fewest..=last).map(|part| (LAST_PART, n, part)));
-    }
+    goals.extend(last_parts().filter(|(_, n, last)| last + 1 == names::of(*n).part.most()));
     let row = ROW as i32;
     goals.extend((0..2 * row).map(|n| (LEFT_OVER, n / row, n % row)));
     goals
@@ -281,6 +286,7 @@ pub fn wished() -> Vec<Goal> {
     for (name, values) in VALUES {
         goals.extend((0..values).map(|v| (VALUE, number(name), v)));
     }
+    goals.extend(last_parts());
     let bsids = (9..32).map(|v| (5, v));
     let distances = (3..16).map(|v| (9, v));
     let others = [
@@ -328,7 +334,11 @@ pub fn say(goal: &Goal) -> String {
 /// What docs/FORMAT.md asks to run and compare, by name; then each of the four flags missing in block 0, refusal 6 at each sort of
 /// element, in block 0 and in block 5, and the corner cases of parts.
 pub fn by_name() -> [(&'static str, Goal); 20] {
-    let corner = |name: &str| (CORNER, corners::at(name), 0);
+    let corners = corners::all();
+    let corner = |name: &str| {
+        let at = corners.iter().position(|corner| corner.name == name);
+        (CORNER, at.expect("a corner case") as i32, 0)
+    };
     [
         ("chbwcod 60", (VALUE, number("chbwcod"), 60)),
         ("chbwcod 61", (JUDGED, 11, 61)),

@@ -78,7 +78,7 @@ fn main() {
     let wished = goals::wished();
     let missed = counts.missed(&wished);
     println!(
-        "\nof {} values and coupling ranges, {} were not drawn",
+        "\nof {} values, coupling ranges and numbers of bands, groups and segments, {} were not drawn",
         wished.len(),
         missed.len()
     );
@@ -113,7 +113,7 @@ fn main() {
         (PLACE, "every sort of place"),
         (
             LAST_PART,
-            "every number of bands and of segments, and the most groups",
+            "the most bands, groups and segments of every name",
         ),
         (LEFT_OVER, "every number of left-over numbers"),
     ] {

@@ -2,6 +2,7 @@ pub mod Demand3
 pub mod Values
 pub mod Marked
 pub mod AtMost
+pub mod Counts
 pub mod RowBound
 pub mod Within
 pub mod Editing

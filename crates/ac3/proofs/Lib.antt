@@ -9,6 +9,7 @@ pub mod Editing
 pub mod Promise
 pub mod Unfitting
 pub mod Rooms
+pub mod Parts
 pub mod MoreRoom
 pub mod Useless
 pub mod Coordinates

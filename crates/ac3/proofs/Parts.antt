@@ -7,7 +7,7 @@ use mathlib.Core.Path.{_≡_, refl, ap, sym, subst, _∙_}
 use Prim.Native.Nat.{ℕ, zero, suc, _+_, _-_, _*_, _≤_, _<_}
 use native.Mathlib.Omega.{arith}
 use lib.Dec.{T, eqb, ltb, eqb→eq, eqb-refl, ltb→lt}
-use lib.IntN.{ℤ, pos, negsuc}
+use lib.IntN.{ℤ, pos, negsuc, pos-ne-negsuc}
 use lib.ListN.{length, getD, drop, replicate}
 use Rattle.tables.specs.Tables.{nfchans}
 use Rattle.syntax.specs.declared.Item.{Item}
@@ -37,12 +37,15 @@ use Rattle.channels.specs.Sound.{SoundBandwidths}
 use Rattle.channels.specs.Strategies.{channelStrategies, exponentStrategies, bandwidth, bandwidths, channelEnd, channelEnds}
 use Rattle.channels.specs.declared.Bandwidths.{Bandwidths}
 use Rattle.ac3.specs.AudioBlock.{Carry, channelFlags, dynamicRange, channelSettings, couplingSection, exponentSection, skipField, allocState, audioBlock}
-use Rattle.ac3.specs.Counts.{Unparted, u-done, u-field, u-here}
+use Rattle.ac3.specs.Counts.{Right, labelled, Unparted, u-done, u-field, u-here}
 use Rattle.ac3.specs.Frame.{unread, audio, syncframe}
 use Rattle.ac3.specs.Marked.{among}
-use Rattle.ac3.specs.Parts.{parted, sameField, alike, PartFits, PartsFit, PartsOfRows, same, sameFront, alikeIn, PartsOfRooms}
+use Rattle.ac3.specs.Parts.{parted, sameField, alike, PartFits, PartsFit, PartsOfRows, same, sameFront, alikeIn, number, fromRow, hasPart, partAt, alikeBefore, PartsOfRooms}
+use Rattle.ac3.specs.Promise.{Call, input, roomFor, listed, answerTo}
+use Rattle.ac3.specs.Rooms.{said, rowCount}
 use Rattle.ac3.proofs.AtMost.{Any, reading}
 use Rattle.ac3.proofs.Counts.{u-turns, u-if, u-when, u-read, u-for, plainly, and-first, and-second, Tallied, t-widen, t-done, t-seq, t-read, t-when, t-turns, Turn, is, turn-take, turn-note, turn-seq, turn-end, t-parts, t-quiet, t-before, t-known, t-after, Numbered, numbered-run}
+use Rattle.ac3.proofs.Promise.{promised}
 use Rattle.ac3.proofs.RowBound.{Ranged, Ending, Bounded, groupsMost, five-or-fewer, a-strategy, a-bandwidths, a-ends, channel-groups, coupling-groups, begins}
 
 -- ---- what has no part: the header
@@ -400,3 +403,163 @@ module _ (key : Item) (its : T (among (key .name) parted)) where
 
   numbered : (s : List ℕ) (room : ℕ) → Numbered key 0 (rowsOf syncframe s room)
   numbered s room = numbered-run (t-frame .tally 0 (λ _. refl)) s (start (length s) room)
+
+-- ---- of rows: what is numbered for every key is numbered by itself
+
+-- an item of a name with parts
+someKey : Item
+someKey = partOf 0 Name.cplcoexp 0 0
+
+same-itself : (i : Item) → T (sameField i i)
+same-itself i = all (eqb (i .name) (i .name)) (eqb (i .block) (i .block)) (eqb (i .index) (i .index)) (eqb-refl (i .name)) (eqb-refl (i .block)) (eqb-refl (i .index))
+  where
+    all : (a b c : Bool) → T a → T b → T c → T (a && (b && c))
+    all true true true p q r = tt
+    all true true false p q r = r
+    all true false c p q r = q
+    all false b c p q r = p
+
+Every : (before rows : List Row) → Type 0
+Every before rows = (key : Item) → T (among (key .name) parted) → Numbered key (alike key before) rows
+
+part-fits : (before : List Row) (i : Item) → T (labelled i) → (T (among (i .name) parted) → i .part ≡ alike i before) → PartFits before i
+part-fits before i t h = record { none = go (among (i .name) parted) t; counted = h; some = stay (among (i .name) parted) t }
+  where
+    go : (b : Bool) → T (cond b (ltb (i .part) 255) (eqb (i .part) 255)) → ¬ T b → i .part ≡ 255
+    go true t missing = absurd (missing tt)
+    go false t missing = eqb→eq (i .part) 255 t
+
+    stay : (b : Bool) → T (cond b (ltb (i .part) 255) (eqb (i .part) 255)) → T b → i .part < 255
+    stay true t its = ltb→lt (i .part) 255 t
+    stay false t its = absurd its
+
+parts-fit : (before rows : List Row) → Every before rows → PartsFit before rows
+unfolding Every alike someKey
+parts-fit before [] h = tt
+parts-fit before (r ∷ rs) h =
+    (part-fits before (r .item) (h someKey tt .0 .0) (λ its. h (r .item) its .0 .1 (same-itself (r .item))), parts-fit (r ∷ before) rs (λ key its. h key its .1))
+
+pub parts-of-rows : PartsOfRows
+unfolding Every alike
+parts-of-rows s room = parts-fit [] (rowsOf syncframe s room) (λ key its. numbered key its s room)
+
+-- ---- of a room
+
+holds : (b : Bool) → T b → true ≡ b
+holds true t = refl
+holds false t = absurd t
+
+fails : (b : Bool) → (T b → ⊥) → false ≡ b
+fails true f = absurd (f tt)
+fails false f = refl
+
+-- what is shown tells what it shows
+same-shown : (m n : ℕ) → same (shown m) (shown n) ≡ eqb m n
+unfolding shown
+same-shown m n = go (eqb m 255) (eqb n 255) refl refl
+  where
+    is-255 : (k : ℕ) → eqb k 255 ≡ true → k ≡ 255
+    is-255 k e = eqb→eq k 255 (subst T (sym e) tt)
+
+    other : (j k : ℕ) → j ≡ 255 → eqb k 255 ≡ false → j ≡ k → ⊥
+    other j k p q e = subst T q (subst (λ x. T (eqb x 255)) (sym p ∙ e) tt)
+
+    go : (a b : Bool) → eqb m 255 ≡ a → eqb n 255 ≡ b → same (cond a (negsuc 0) (pos m)) (cond b (negsuc 0) (pos n)) ≡ eqb m n
+    go true true p q = holds (eqb m n) (subst (λ x. T (eqb m x)) (is-255 m p ∙ sym (is-255 n q)) (eqb-refl m))
+    go true false p q = fails (eqb m n) (λ t. other m n (is-255 m p) q (eqb→eq m n t))
+    go false true p q = fails (eqb m n) (λ t. other n m (is-255 n q) p (sym (eqb→eq m n t)))
+    go false false p q = refl
+
+same-front : (x r : Row) (u v : List ℤ) → sameFront (numbers x ++ u) (numbers r ++ v) ≡ sameField (x .item) (r .item)
+same-front x r u v = simp same-shown
+
+-- the first i of these rows, in front of those before them
+unfoldable passed : ℕ → (rows before : List Row) → List Row
+passed zero rows before = before
+passed (suc i) [] before = before
+passed (suc i) (r ∷ rs) before = passed i rs (r ∷ before)
+
+module _ (tail : List ℤ) where
+  alike-held : (x : Row) (u : List ℤ) (i : ℕ) (rows before : List Row) → i ≤ length rows
+      → alikeIn (numbers x ++ u) i (flatten rows ++ tail) + alike (x .item) before ≡ alike (x .item) (passed i rows before)
+  unfolding alikeIn alike passed flatten
+  alike-held x u zero rows before h = omega arith
+  alike-held x u (suc i) [] before h = absurd (omega arith)
+  alike-held x u (suc i) (r ∷ rs) before h =
+      ap (λ b. cond b 1 0 + alikeIn (numbers x ++ u) i (flatten rs ++ tail) + alike (x .item) before) (same-front x r u (flatten rs ++ tail))
+      ∙ one-more (sameField (x .item) (r .item)) (alikeIn (numbers x ++ u) i (flatten rs ++ tail)) (alike (x .item) before) (alike-held x u i rs (r ∷ before) (omega arith))
+    where
+      one-more : (b : Bool) (y z : ℕ) {w : ℕ} → y + cond b (z + 1) z ≡ w → cond b 1 0 + y + z ≡ w
+      one-more true y z h = omega arith
+      one-more false y z h = omega arith
+
+  -- row i of a room, and what is said of its part
+  record RowAt (rows before : List Row) (i : ℕ) : Type 0 where
+    pub row : Row
+    pub rest : List ℤ
+    pub from : drop (i * rowWidth) (flatten rows ++ tail) ≡ numbers row ++ rest
+    pub fits : PartFits (passed i rows before) (row .item)
+
+  row-at : (i : ℕ) (rows before : List Row) → i < length rows → PartsFit before rows → RowAt rows before i
+  unfolding passed flatten
+  row-at i [] before h fits = absurd (omega arith)
+  row-at zero (r ∷ rs) before h fits = record { row = r; rest = flatten rs ++ tail; from = refl; fits = fits .0 }
+  row-at (suc i) (r ∷ rs) before h fits =
+      let later = row-at i rs (r ∷ before) (omega arith) (fits .1) in
+      let nine : suc i * rowWidth ≡ suc (suc (suc (suc (suc (suc (suc (suc (suc (i * rowWidth))))))))) = omega arith in
+      record { row = later .row; rest = later .rest; from = ap (λ n. drop n (flatten (r ∷ rs) ++ tail)) nine ∙ later .from; fits = later .fits }
+
+shown-part : (n : ℕ) → n < 255 → shown n ≡ pos n
+unfolding shown
+shown-part n small = go (eqb n 255) refl
+  where
+    go : (b : Bool) → eqb n 255 ≡ b → cond b (negsuc 0) (pos n) ≡ pos n
+    go true e = let is = eqb→eq n 255 (subst T (sym e) tt) in absurd (omega arith)
+    go false e = refl
+
+module _ (c : Call) (i : ℕ) (written : i < rowCount c) where
+  behind : List ℤ
+  behind = drop (length (listed c) * rowWidth) (c .room)
+
+  held : RowAt behind (listed c) [] i
+  held = let same = promised c refl .counted in row-at behind i (listed c) [] (omega arith) (parts-of-rows (input c) (roomFor c))
+
+  abbrev its-item : Item
+  its-item = held .row .item
+
+  abbrev earlier : List Row
+  earlier = passed i (listed c) []
+
+  from-room : fromRow c i ≡ numbers (held .row) ++ held .rest
+  unfolding behind
+  from-room = ap (drop (i * rowWidth)) (promised c refl .written) ∙ held .from
+
+  alike-room : alikeBefore c i ≡ alike its-item earlier
+  unfolding behind alike
+  alike-room =
+      let same = promised c refl .counted in
+      ap (λ l. alikeIn l i (answerTo c .1)) from-room
+      ∙ ap (alikeIn (numbers (held .row) ++ held .rest) i) (promised c refl .written)
+      ∙ omega (arith, alike-held behind (held .row) (held .rest) i (listed c) [] (omega arith))
+
+  has-part : hasPart c i ≡ among (its-item .name) parted
+  has-part = ap (λ l. among (said 0 l) parted) from-room
+
+  part-at : partAt c i ≡ shown (its-item .part)
+  part-at = ap (number 8) from-room
+
+  part-counted : T (hasPart c i) → partAt c i ≡ pos (alikeBefore c i)
+  part-counted t =
+      let its = subst T has-part t in
+      part-at ∙ shown-part (its-item .part) (held .fits .some its) ∙ ap pos (held .fits .counted its ∙ sym alike-room)
+
+  part-none : ¬ T (hasPart c i) → partAt c i ≡ negsuc 0
+  unfolding shown
+  part-none missing = part-at ∙ ap shown (held .fits .none (λ its. missing (subst T (sym has-part) its)))
+
+pub parts-of-rooms : PartsOfRooms
+parts-of-rooms =
+    record {
+      none = λ c i written. (λ is t. pos-ne-negsuc (alikeBefore c i) 0 (sym (part-counted c i written t) ∙ is), part-none c i written);
+      counted = part-counted;
+    }

@@ -201,6 +201,15 @@ module _ (key : Item) (its : T (among (key .name) parted)) where
   apart : (blk index x y : ℕ) → (x ≡ y → ⊥) → T (is key blk index x) → T (is key blk index y) → ⊥
   apart blk index x y h s t = h (sym (found blk index x s .name) ∙ found blk index y t .name)
 
+  own : (blk index name first last : ℕ) → (first ≤ name) × (name ≤ last) → T (is key blk index name) → Own key blk first last × (key .index ≡ index)
+  own blk index name first last h t = let f = found blk index name t in (record { block = f .block; low = omega arith; high = omega arith }, f .index)
+
+  -- one part of a block and then another, whose names stand behind those of the first
+  t-then : {A B : Type 0} {P : A → Type 0} {Q : B → Type 0} {g : Grammar A} {f : A → Grammar B} {blk : ℕ} (first a b last : ℕ) → (first ≤ b) × (a < b) × (b ≤ last)
+      → Tallied key P (Own key blk first a) g → ((x : A) → P x → Tallied key Q (Own key blk b last) (f x)) → Tallied key Q (Own key blk first last) (g >>= f)
+  t-then first a b last h t u =
+      t-seq (λ o. record { block = o .block; low = o .low; high = omega arith }) (λ o. record { block = o .block; low = omega arith; high = o .high }) (λ o p. omega arith) t u
+
   -- ---- bands
 
   turn-coordinate : (blk ch bnd : ℕ) → bnd < 255 → Turn key (is key blk ch Name.cplcoexp || is key blk ch Name.cplcomant) bnd (coordinate blk ch bnd)
@@ -210,13 +219,7 @@ module _ (key : Item) (its : T (among (key .name) parted)) where
       (turn-note key blk ch Name.cplcoexp bnd tt h 4) (λ _. turn-note key blk ch Name.cplcomant bnd tt h 4)
 
   own-band : (blk ch : ℕ) → T (is key blk ch Name.cplcoexp || is key blk ch Name.cplcomant) → Own key blk 64 65 × (key .index ≡ ch)
-  own-band blk ch = or-cases (is key blk ch Name.cplcoexp) (is key blk ch Name.cplcomant) (λ t. put (found blk ch Name.cplcoexp t)) (λ t. put′ (found blk ch Name.cplcomant t))
-    where
-      put : Found key blk ch Name.cplcoexp → Own key blk 64 65 × (key .index ≡ ch)
-      put f = (record { block = f .block; low = omega arith; high = omega arith }, f .index)
-
-      put′ : Found key blk ch Name.cplcomant → Own key blk 64 65 × (key .index ≡ ch)
-      put′ f = (record { block = f .block; low = omega arith; high = omega arith }, f .index)
+  own-band blk ch = or-cases (is key blk ch Name.cplcoexp) (is key blk ch Name.cplcomant) (own blk ch Name.cplcoexp 64 65 (omega arith)) (own blk ch Name.cplcomant 64 65 (omega arith))
 
   t-channel-coordinates : (blk : ℕ) (c : Coupling) → c .ncplbnd ≤ 18 → (ch : ℕ) → Tallied key Any (Own key blk 64 65 × (key .index ≡ ch)) (channelCoordinates blk c ch)
   unfolding channelCoordinates
@@ -255,10 +258,7 @@ module _ (key : Item) (its : T (among (key .name) parted)) where
       t-before key its (search plainly) λ _. t-read (isNew strategy) e tt (t-after key its (t-set blk slot strategy start end few) λ _. t-done tt)
 
   own-group : (blk slot name index : ℕ) → groupName slot ≡ name → exponentIndex slot ≡ index → T (is key blk (exponentIndex slot) (groupName slot)) → Own key blk name name × (key .index ≡ index)
-  own-group blk slot name index n i t =
-      let f = found blk (exponentIndex slot) (groupName slot) t in
-      let named : key .name ≡ name = f .name ∙ n in
-      (record { block = f .block; low = omega arith; high = omega arith }, f .index ∙ i)
+  own-group blk slot name index n i t = let o = own blk (exponentIndex slot) (groupName slot) name name (omega arith) t in (o .0, o .1 ∙ i)
 
   t-channel : (blk : ℕ) (c : Coupling) (chexpstr ends : List ℕ) → Ending c ends → c .cplbegf < 16 → (ch : ℕ) → ch < 5 → (e : Exponents)
       → Tallied key Any (Own key blk 76 76 × (key .index ≡ ch)) (channelExponents blk chexpstr ends ch e)
@@ -283,11 +283,11 @@ module _ (key : Item) (its : T (among (key .name) parted)) where
       → Tallied key Any (Own key blk 74 79) (exponents blk nfchans lfeon c s ends old)
   unfolding exponents
   t-exponents blk nfchans five lfeon c s ends old r ending =
-      t-seq {M = Own key blk 74 74} {N = Own key blk 76 79} (λ o. record { block = o .block; low = omega arith; high = omega arith }) (λ o. record { block = o .block; low = omega arith; high = omega arith }) (λ o p. omega arith)
+      t-then 74 74 76 79 (omega arith)
       (t-read (c .cplinu) old tt (t-widen (λ _ q. q) (λ t. own-group blk CPL 74 0 refl refl t .0)
       (t-slot blk noCouplingExponents CPL (s .cplexpstr) (firstCoupled (c .cplbegf)) (pastCoupled (c .cplendf)) old
       (omega (arith, coupling-groups (s .cplexpstr) (c .cplbegf) (c .cplendf) (r .cplbegf) (r .cplendf)))))) λ e _.
-      t-seq {M = Own key blk 76 76} {N = Own key blk 79 79} (λ o. record { block = o .block; low = omega arith; high = omega arith }) (λ o. record { block = o .block; low = omega arith; high = omega arith }) (λ o p. omega arith)
+      t-then 76 76 79 79 (omega arith)
       (t-turns Any (Own key blk 76 76) (key .index) (nfchans - 0) e (λ ch lt e _. t-channel blk c (s .chexpstr) ends ending (r .cplbegf) ch (omega arith) e) tt) λ e _.
       t-read lfeon e tt (t-widen (λ _ q. q) (λ t. own-group blk LFE 79 0 refl refl t .0) (t-slot blk noLfeExponents LFE (s .lfeexpstr) 0 7 e (omega arith)))
 
@@ -317,10 +317,9 @@ module _ (key : Item) (its : T (among (key .name) parted)) where
   -- the name of coupling and that of a channel stand equally far behind the first of theirs
   own-name : (blk slot d : ℕ) (b : Bool) → d ≤ 2 → eqb slot CPL ≡ b → T (is key blk slot (deltaName slot (101 + d) (105 + d)))
       → Own key blk (cond b 101 105) (cond b 101 105 + 2) × (key .index ≡ slot)
-  own-name blk slot d b le e t =
-      let f = found blk slot (deltaName slot (101 + d) (105 + d)) t in
-      let named : key .name ≡ cond b 101 105 + d = f .name ∙ ap (λ b. cond b (101 + d) (105 + d)) e ∙ behind b in
-      (record { block = f .block; low = omega arith; high = omega arith }, f .index)
+  own-name blk slot d b le e =
+      let named : deltaName slot (101 + d) (105 + d) ≡ cond b 101 105 + d = ap (λ b. cond b (101 + d) (105 + d)) e ∙ behind b in
+      own blk slot (deltaName slot (101 + d) (105 + d)) (cond b 101 105) (cond b 101 105 + 2) (omega arith)
     where
       behind : (b : Bool) → cond b (101 + d) (105 + d) ≡ cond b 101 105 + d
       behind true = refl
@@ -345,7 +344,7 @@ module _ (key : Item) (its : T (among (key .name) parted)) where
   unfolding codedDeltas
   t-coded blk nfchans five cplinu old =
       t-before key its (search (u-code, plainly) depth 20) λ d. t-before key its (search (u-channel-code, plainly) depth 20) λ d.
-      t-seq {M = Own key blk 101 103} {N = Own key blk 105 107} (λ o. record { block = o .block; low = omega arith; high = omega arith }) (λ o. record { block = o .block; low = omega arith; high = omega arith }) (λ o p. omega arith)
+      t-then 101 103 105 107 (omega arith)
       (t-widen (λ _ q. q) (λ t. own-segment blk CPL true refl t .0) (t-slot-deltas blk (d .codes) CPL (d .deltas))) λ new _.
       t-turns Any (Own key blk 105 107) (key .index) (nfchans - 0) new
       (λ ch lt l _. t-widen (λ _ q. q) (own-segment blk ch false (of-channel ch (omega arith) .uncoupled)) (t-slot-deltas blk (d .codes) ch l)) tt
@@ -387,12 +386,12 @@ module _ (key : Item) (its : T (among (key .name) parted)) where
       let n = nfchans (h .acmod) in
       let five = five-or-fewer (h .acmod) in
       t-before key its (u-here (λ _. u-done)) λ start. t-before key its (u-settings blk (h .acmod)) λ _.
-      t-seq {M = Own key blk 64 65} {N = Own key blk 74 107} (λ o. o .block) (λ o. o .block) (λ o p. omega arith) (t-coupling blk (h .acmod) (before .state .coupling) (b .coupling)) λ cpl r.
-      t-seq {M = Own key blk 74 79} {N = Own key blk 101 107} (λ o. record { block = o .block; low = omega arith; high = omega arith }) (λ o. record { block = o .block; low = omega arith; high = omega arith }) (λ o p. omega arith)
+      t-widen (λ _ q. q) (λ o. o .block) (t-then 64 65 74 107 (omega arith) (t-coupling blk (h .acmod) (before .state .coupling) (b .coupling)) λ cpl r.
+      t-then 74 79 101 107 (omega arith)
       (t-exponented blk h (cpl .coupling) (before .state .bandwidths) _ r (b .bandwidths)) λ x w.
       t-after key its (t-alloc blk n five (cpl .coupling .cplinu) (h .lfeon) (before .state .alloc)) λ alloc.
       t-before key its (u-skip blk) λ _. t-before key its (u-mantissas blk n (h .fscod) (h .lfeon) (cpl .coupling) (x .ends) alloc (x .exponents .exps)) λ _.
-      t-done (record { coupling = r; bandwidths = w })
+      t-done (record { coupling = r; bandwidths = w }))
 
   t-frame : Tallied key Any (Unit {0}) syncframe
   unfolding syncframe audio

@@ -30,7 +30,7 @@ parted =
 abbrev pub sameField : Item → Item → Bool
 sameField i j = eqb (i .name) (j .name) && (eqb (i .block) (j .block) && eqb (i .index) (j .index))
 
--- how many of these rows are so
+-- how many of these rows are of an item's name, block and index
 unfoldable pub alike : Item → List Row → ℕ
 alike i [] = 0
 alike i (r ∷ rs) = cond (sameField i (r .item)) (alike i rs + 1) (alike i rs)
@@ -65,7 +65,7 @@ number column room = getD room column (pos 0)
 abbrev pub sameFront : List ℤ → List ℤ → Bool
 sameFront x y = same (number 0 x) (number 0 y) && (same (number 3 x) (number 3 y) && same (number 4 x) (number 4 y))
 
--- how many of the first n rows of a room are so, beside a given row
+-- how many of the first n rows of a room are of this row's name, block and index
 unfoldable pub alikeIn : (row : List ℤ) (n : ℕ) → List ℤ → ℕ
 alikeIn row zero room = 0
 alikeIn row (suc n) room = cond (sameFront row room) 1 0 + alikeIn row n (drop rowWidth room)

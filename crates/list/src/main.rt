@@ -1,4 +1,4 @@
-// Lists one frame: reads it from standard input (at most 3,840 bytes, later ones are not read), parses it with room for 2,048 rows, and
+// Lists one frame: reads it from standard input (at most 3,840 bytes, later ones are not read), parses it with room for 1,820 rows, and
 // prints each row's numbers and a last line, `audio ROWS BYTES AUDIO_END` or `refused NUMBER ROWS BIT NAME BLOCK`.
 use ac3::Answer;
 use libc::STDIN_FILENO;

@@ -18,9 +18,10 @@ use Rattle.mantissas.specs.Parts.{channelParts, parts}
 use Rattle.header.specs.Header.{syncinfo, programmeInfo, alternateInfo, timeCodes, additionalInfo, bsi, header}
 use Rattle.channels.specs.Coupling.{howMany, coupledChannels, joined, couplingBands, newCoupling, couplingStrategy, coordinate, channelCoordinates, phaseFlags, couplingCoordinates, rematrixing}
 use Rattle.channels.specs.Strategies.{channelStrategies, exponentStrategies, bandwidth, bandwidths, channelEnd, channelEnds}
-use Rattle.ac3.specs.AudioBlock.{channelFlags, dynamicRange, channelSettings, couplingSection, exponentSection, skipField, allocState, allSent, audioBlock}
+use Rattle.ac3.specs.AudioBlock.{channelFlags, dynamicRange, channelSettings, couplingSection, exponentSection, skipField, allocState, audioBlock}
 use Rattle.ac3.specs.Frame.{audio, syncframe, answered}
 use Rattle.ac3.specs.Listing.{bytes, plusOne, checksum, verdict, short}
+use Rattle.ac3.specs.Sent.{every, some, coordinatesSent}
 use Rattle.ac3.specs.Listing.{listing}
 
 -- ffmpeg, 2/0, 48 kHz, coupling in every block
@@ -381,7 +382,7 @@ accepted :
     × (listing 2048 widest ≡ 207 ∷ 1088 ∷ 137433663604931848 ∷ 0 ∷ 138 ∷ 5 ∷ 1 ∷ 0 ∷ 1 ∷ 0 ∷ 100 ∷ 269 ∷ 458 ∷ 545 ∷ 684 ∷ 1046 ∷ 269 ∷ 458 ∷ 545 ∷ 580 ∷ 1046 ∷ 1088 ∷ 1 ∷ [])
     × (listing 2048 other-names-1 ≡ 563 ∷ 2776 ∷ 1825383984366266164 ∷ 0 ∷ 348 ∷ 6 ∷ 0 ∷ 0 ∷ 1 ∷ 6 ∷ 147 ∷ 1544 ∷ 1604 ∷ 1712 ∷ 1949 ∷ 2596 ∷ 1544 ∷ 1604 ∷ 1712 ∷ 1949 ∷ 2596 ∷ 2776 ∷ 0 ∷ [])
     × (listing 2048 deltas-stay ≡ 150 ∷ 1098 ∷ 1199251214092976941 ∷ 0 ∷ 138 ∷ 8 ∷ 1 ∷ 0 ∷ 1 ∷ 0 ∷ 138 ∷ 817 ∷ 850 ∷ 892 ∷ 926 ∷ 1044 ∷ 802 ∷ 835 ∷ 877 ∷ 911 ∷ 1009 ∷ 1063 ∷ 1 ∷ [])
-unfolding bitAt value bitsBefore sameBits rangeEq _>>=_ turns shown except exec andThen flatten landing finish roomCheck check sum unless run continue nfchans words48 words44 words32 frameBytes slowDecay fastDecay slowGain knee floor fastGain bandEnd logAdd hearing bap bapBits from placed snrOffset psdOf mappedPsd logadd bandSum bandOf startOf endOf bandPsd integratedPsd lowcomp lowAfter rises startLeak fallTo fallBy fallLeak leakStep excitations excitation overKnee maskOf maskingCurve deltaOf passed deltaIn deltaSum deltaApplied kept threshold thresholds addressOf bapOf Allocation-pointers allocation deltaCode channelCode segment newDeltas slotDeltas codedDeltas deltas newCurve curve fineOffset channelOffset newOffsets offsets newLeak couplingLeak step unpack group exponentSet slotExponents channelExponents exponents silent Mantissas-pointers allPointers widths mantissas channelParts parts syncinfo programmeInfo alternateInfo timeCodes additionalInfo bsi header howMany coupledChannels joined couplingBands newCoupling couplingStrategy coordinate channelCoordinates phaseFlags couplingCoordinates rematrixing channelStrategies exponentStrategies bandwidth bandwidths channelEnd channelEnds channelFlags dynamicRange channelSettings couplingSection exponentSection skipField allocState allSent audioBlock audio syncframe answered bytes plusOne checksum verdict short
+unfolding bitAt value bitsBefore sameBits rangeEq _>>=_ turns shown except exec andThen flatten landing finish roomCheck check sum unless run continue nfchans words48 words44 words32 frameBytes slowDecay fastDecay slowGain knee floor fastGain bandEnd logAdd hearing bap bapBits from placed snrOffset psdOf mappedPsd logadd bandSum bandOf startOf endOf bandPsd integratedPsd lowcomp lowAfter rises startLeak fallTo fallBy fallLeak leakStep excitations excitation overKnee maskOf maskingCurve deltaOf passed deltaIn deltaSum deltaApplied kept threshold thresholds addressOf bapOf Allocation-pointers allocation deltaCode channelCode segment newDeltas slotDeltas codedDeltas deltas newCurve curve fineOffset channelOffset newOffsets offsets newLeak couplingLeak step unpack group exponentSet slotExponents channelExponents exponents silent Mantissas-pointers allPointers widths mantissas channelParts parts syncinfo programmeInfo alternateInfo timeCodes additionalInfo bsi header howMany coupledChannels joined couplingBands newCoupling couplingStrategy coordinate channelCoordinates phaseFlags couplingCoordinates rematrixing channelStrategies exponentStrategies bandwidth bandwidths channelEnd channelEnds channelFlags dynamicRange channelSettings couplingSection exponentSection skipField allocState audioBlock audio syncframe answered bytes plusOne checksum verdict short every some coordinatesSent
 accepted = (refl, refl, refl, refl, refl, refl, refl, refl, refl, refl, refl, refl, refl, refl, refl, refl, refl, refl, refl, refl, refl)
 
 refused :
@@ -417,5 +418,5 @@ refused :
     × (listing 2048 refusal-21 ≡ 26 ∷ 75 ∷ 878359410002101658 ∷ 21 ∷ 0 ∷ 0 ∷ [])
     × (listing 2048 refusal-22 ≡ 33 ∷ 127 ∷ 2175148581457006551 ∷ 22 ∷ 0 ∷ 0 ∷ [])
     × (listing 2048 refusal-23 ≡ 40 ∷ 146 ∷ 220526504281723518 ∷ 23 ∷ 0 ∷ 0 ∷ [])
-unfolding bitAt value bitsBefore sameBits rangeEq _>>=_ turns shown except exec andThen flatten landing finish roomCheck check sum unless run continue nfchans words48 words44 words32 frameBytes slowDecay fastDecay slowGain knee floor fastGain bandEnd logAdd hearing bap bapBits from placed snrOffset psdOf mappedPsd logadd bandSum bandOf startOf endOf bandPsd integratedPsd lowcomp lowAfter rises startLeak fallTo fallBy fallLeak leakStep excitations excitation overKnee maskOf maskingCurve deltaOf passed deltaIn deltaSum deltaApplied kept threshold thresholds addressOf bapOf Allocation-pointers allocation deltaCode channelCode segment newDeltas slotDeltas codedDeltas deltas newCurve curve fineOffset channelOffset newOffsets offsets newLeak couplingLeak step unpack group exponentSet slotExponents channelExponents exponents silent Mantissas-pointers allPointers widths mantissas channelParts parts syncinfo programmeInfo alternateInfo timeCodes additionalInfo bsi header howMany coupledChannels joined couplingBands newCoupling couplingStrategy coordinate channelCoordinates phaseFlags couplingCoordinates rematrixing channelStrategies exponentStrategies bandwidth bandwidths channelEnd channelEnds channelFlags dynamicRange channelSettings couplingSection exponentSection skipField allocState allSent audioBlock audio syncframe answered bytes plusOne checksum verdict short
+unfolding bitAt value bitsBefore sameBits rangeEq _>>=_ turns shown except exec andThen flatten landing finish roomCheck check sum unless run continue nfchans words48 words44 words32 frameBytes slowDecay fastDecay slowGain knee floor fastGain bandEnd logAdd hearing bap bapBits from placed snrOffset psdOf mappedPsd logadd bandSum bandOf startOf endOf bandPsd integratedPsd lowcomp lowAfter rises startLeak fallTo fallBy fallLeak leakStep excitations excitation overKnee maskOf maskingCurve deltaOf passed deltaIn deltaSum deltaApplied kept threshold thresholds addressOf bapOf Allocation-pointers allocation deltaCode channelCode segment newDeltas slotDeltas codedDeltas deltas newCurve curve fineOffset channelOffset newOffsets offsets newLeak couplingLeak step unpack group exponentSet slotExponents channelExponents exponents silent Mantissas-pointers allPointers widths mantissas channelParts parts syncinfo programmeInfo alternateInfo timeCodes additionalInfo bsi header howMany coupledChannels joined couplingBands newCoupling couplingStrategy coordinate channelCoordinates phaseFlags couplingCoordinates rematrixing channelStrategies exponentStrategies bandwidth bandwidths channelEnd channelEnds channelFlags dynamicRange channelSettings couplingSection exponentSection skipField allocState audioBlock audio syncframe answered bytes plusOne checksum verdict short every some coordinatesSent
 refused = (refl, refl, refl, refl, refl, refl, refl, refl, refl, refl, refl, refl, refl, refl, refl, refl, refl, refl, refl, refl, refl, refl, refl, refl, refl, refl, refl, refl, refl, refl, refl, refl)

@@ -1,3 +1,4 @@
+pub mod Sent
 pub mod AudioBlock
 pub mod Frame
 pub mod Marked
@@ -16,5 +17,6 @@ pub mod Editing
 pub mod Apart
 pub mod Later
 pub mod Sound
+pub mod Tallied
 pub mod Listing
 pub mod Proved

@@ -11,7 +11,7 @@ use borrow.Author.Count.{below-more}
 use lib.ListN.{length, getD, replicate, length-append, List·getD-append}
 use lib.Seq.{getD-append-add}
 use Rattle.slots.proofs.Entries.{every-replicate}
-use Rattle.ac3.specs.Sent.{Sending, every, some, block, isCoupled, sends, had, allHad, coordinatesSent, EachHad, SentIsEachHad}
+use Rattle.ac3.specs.Sent.{Sending, every, some, block, isCoupled, eachCoupled, sends, had, allHad, coordinatesSent, EachHad, SentIsEachHad}
 use Rattle.ac3.specs.Tallied.{Tallied}
 
 -- ---- tests that hold
@@ -102,7 +102,9 @@ module _ (blocks : List Sending) where
       let here = every-each (asked b) 5 (every-each (allHad blocks) (length blocks) sent b l) ch m in
       let w = some-which (has ch) (b + 1) (that _ _ here is) in
       let e = w .0 in
-      (e, omega (arith, w .1), first (isCoupled blocks e ch) (sends blocks e ch) (w .2), second (isCoupled blocks e ch) (sends blocks e ch) (w .2))
+      let coupled = isCoupled blocks e ch in
+      let sent = sends blocks e ch in
+      (e, omega (arith, w .1), first coupled sent (w .2), second coupled sent (w .2))
 
   each-sent : EachHad blocks → coordinatesSent blocks ≡ true
   unfolding coordinatesSent
@@ -157,10 +159,10 @@ module _ (blocks : List Sending) (this : Sending) where
     had-now : (ch : ℕ) → ch < 5 → getD next ch false ≡ had longer (suc (length blocks)) ch
     had-now ch l = joins ch l ∙ ap (λ b. b || sent-here ch) (t .had ch l) ∙ sym (had-here ch)
 
-    all-now : every 5 (λ ch. not (getD (this .chincpl) ch false) || getD next ch false) ≡ allHad longer (length blocks)
+    all-now : eachCoupled (this .chincpl) (λ ch. getD next ch false) ≡ allHad longer (length blocks)
     all-now = every-same _ _ 5 λ ch l. rw (had-now ch l, here, add-one)
 
-    pub one-more-tallied : Tallied longer (told && every 5 (λ ch. not (getD (this .chincpl) ch false) || getD next ch false)) next
+    pub one-more-tallied : Tallied longer (told && eachCoupled (this .chincpl) (λ ch. getD next ch false)) next
     unfolding coordinatesSent every
     one-more-tallied =
         record {

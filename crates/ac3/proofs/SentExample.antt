@@ -1,19 +1,26 @@
 -- "Coordinates sent" of the six blocks of a frame, by computation: a channel that joins late, one that comes back, coupling that pauses.
 -- Assumes nothing.
 use mathlib.Core.Bool.{Bool, true, false}
-use mathlib.Core.List.{List, [], _∷_, _++_}
+use mathlib.Core.List.{List, [], _∷_}
 use mathlib.Core.Path.{_≡_, refl}
 use lib.ListN.{replicate}
 use Rattle.ac3.specs.Sent.{Sending, every, some, coordinatesSent}
 
--- a block with these coupled channels, of which these have cplcoe 1; and several of the kind
+-- a block with these coupled channels, and with cplcoe 1 of these
 abbrev of : (chincpl cplcoe : List Bool) → Sending
 of chincpl cplcoe = record { chincpl = chincpl; cplcoe = cplcoe }
 
-abbrev none two three third : List Bool
+-- no channel; 0 and 1; 3 as well; 3 alone
+abbrev none : List Bool
 none = replicate 5 false
+
+abbrev two : List Bool
 two = true ∷ true ∷ false ∷ false ∷ false ∷ []
+
+abbrev three : List Bool
 three = true ∷ true ∷ false ∷ true ∷ false ∷ []
+
+abbrev third : List Bool
 third = false ∷ false ∷ false ∷ true ∷ false ∷ []
 
 -- channel 3 joins in block 2, with cplcoe 0: no, although the first coupled block has all its channels' coordinates

@@ -20,6 +20,10 @@ unfoldable pub some : ℕ → (ℕ → Bool) → Bool
 some zero p = false
 some (suc n) p = some n p || p n
 
+-- it holds of each coupled channel
+abbrev pub eachCoupled : (chincpl : List Bool) → (ℕ → Bool) → Bool
+eachCoupled chincpl p = every 5 (λ ch. not (getD chincpl ch false) || p ch)
+
 -- the blocks in order, those of a whole frame or its first ones
 module _ (blocks : List Sending) where
   abbrev pub block : ℕ → Sending
@@ -35,9 +39,9 @@ module _ (blocks : List Sending) where
   abbrev pub had : (n ch : ℕ) → Bool
   had n ch = some n (λ e. isCoupled e ch && sends e ch)
 
-  -- each channel that is coupled in block b has had it by then
+  -- each channel that is coupled in block b has it there, or had it in an earlier block
   abbrev pub allHad : ℕ → Bool
-  allHad b = every 5 (λ ch. not (isCoupled b ch) || had (b + 1) ch)
+  allHad b = eachCoupled (block b .chincpl) (had (b + 1))
 
   unfoldable pub coordinatesSent : Bool
   coordinatesSent = every (length blocks) allHad
@@ -49,4 +53,5 @@ module _ (blocks : List Sending) where
       → (e : ℕ) × (e ≤ b) × (isCoupled e ch ≡ true) × (sends e ch ≡ true)
 
 abbrev pub SentIsEachHad : Type 0
-SentIsEachHad = (blocks : List Sending) → (coordinatesSent blocks ≡ true → EachHad blocks) × (EachHad blocks → coordinatesSent blocks ≡ true)
+SentIsEachHad = (blocks : List Sending)
+    → (coordinatesSent blocks ≡ true → EachHad blocks) × (EachHad blocks → coordinatesSent blocks ≡ true)

@@ -33,7 +33,7 @@ use syntax::readers::flag;
 use syntax::readers::pass;
 use syntax::readers::take;
 use tables::nfchans;
-ghost use mathlib.Core.Bool.{false, cond, not, _&&_, _||_};
+ghost use mathlib.Core.Bool.{false, cond, _&&_, _||_};
 ghost use mathlib.Core.List.{List, [], _∷_, _++_};
 ghost use mathlib.Core.Path.{_≡_};
 ghost use Prim.Native.Nat.{ℕ, _+_, _<_, _≤_};
@@ -47,7 +47,7 @@ ghost use Rattle.slots.specs.Reused.{Keeps, ReusedBy};
 ghost use Rattle.channels.specs.Sound.{SoundBands, SoundBandwidths};
 ghost use Rattle.mantissas.specs.Kept.{Kept};
 ghost use Rattle.ac3.specs.AudioBlock as grammar;
-ghost use Rattle.ac3.specs.Sent.{Sending, every};
+ghost use Rattle.ac3.specs.Sent.{Sending, eachCoupled};
 ghost use Rattle.ac3.specs.Sound.{SoundState};
 ghost use Rattle.ac3.specs.Tallied.{Tallied};
 
@@ -112,7 +112,7 @@ fn had_by_now(before: [bool; 5], chincpl: [bool; 5], cplcoe: [bool; 5]) -> [bool
 
 // Every coupled channel has had coordinates.
 fn all_had(chincpl: [bool; 5], had: [bool; 5]) -> bool
-    ensures { λ r. ⌜ r ≡ every 5 (λ ch. not (getD chincpl ch false) || getD had ch false) ⌝ }
+    ensures { λ r. ⌜ r ≡ eachCoupled chincpl (λ ch. getD had ch false) ⌝ }
 {
     for ch in 0..5 {
         if and_not(chincpl[ch], had[ch]) {
@@ -124,7 +124,7 @@ fn all_had(chincpl: [bool; 5], had: [bool; 5]) -> bool
 
 // The same of every block up to this one.
 fn sent_so_far(before: bool, chincpl: [bool; 5], had: [bool; 5]) -> bool
-    ensures { λ r. ⌜ r ≡ (before && every 5 (λ ch. not (getD chincpl ch false) || getD had ch false)) ⌝ }
+    ensures { λ r. ⌜ r ≡ (before && eachCoupled chincpl (λ ch. getD had ch false)) ⌝ }
 {
     before && all_had(chincpl, had)
 }
@@ -315,7 +315,8 @@ pub struct BlockRead {
     pub cursor: Cursor,
 }
 
-// The exponents in force stand beside the state, and so does what was counted of the slots before.
+// The exponents in force stand beside the state, and so does what was counted of the slots before. Whatever the blocks before were, if `had`
+// and the tally tell of them whether coordinates were sent, they do so of those blocks and this one.
 pub fn audio_block(
     s: &[u8],
     rows: &mut [i32],
@@ -334,7 +335,8 @@ pub fn audio_block(
     requires { ⌜ SoundExps (now exps) ⌝ }
     requires { ⌜ Kept (header .fscod) (now memos) (now exps) ⌝ }
     ensures { λ r. ⌜ ((earlier : List Sending) → Tallied earlier (tally .coordinates) had → (this : Sending)
-        × Reads (grammar.audioBlock header blk (record { state = old; exps = now (exps .entry); tally = tally; blocks = earlier })) (now (s .entry)) c (now (rows .entry))
+        × Reads (grammar.audioBlock header blk (record { state = old; exps = now (exps .entry); tally = tally; blocks = earlier }))
+        (now (s .entry)) c (now (rows .entry))
         (record { state = r .state; exps = now (exps .exit); tally = r .tally; blocks = earlier ++ this ∷ [] }) (r .cursor) (now (rows .exit))
         × Tallied (earlier ++ this ∷ []) (r .tally .coordinates) (r .had)) ⌝ }
     ensures { λ r. ⌜ SoundState (r .state) ⌝ }

@@ -1,4 +1,5 @@
--- `ac3::audio::audio` meets its contract: the invariant says which blocks are left, and that what they leave to the next one is within its bounds. Assumes nothing.
+-- `ac3::audio::audio` meets its contract: the invariant says which blocks are left, that those before are tallied, and that what they leave
+-- to the next one is within its bounds. Assumes nothing.
 use mathlib.Core.List.{List, [], _∷_, _++_}
 use Prim.Native.Nat.{_-_, _≤_}
 use native.Mathlib.Omega.{arith}
@@ -20,7 +21,8 @@ use Rattle.ac3.proofs.audio.audio.Tie as tie
 abbrev Inv-loop : tie.InvT-loop
 Inv-loop s rows₀ header exps₀ memos₀ state₀ tally₀ had₀ cursor₀ blk₀ rows exps memos state tally had cursor blk =
     ((blocks : List Sending)
-    × Turns (audioBlock header) 0 6 unread s cursor₀ rows₀ blk (record { state = state; exps = exps; tally = tally; blocks = blocks }) cursor rows
+    × Turns (audioBlock header) 0 6 unread s cursor₀ rows₀ blk
+    (record { state = state; exps = exps; tally = tally; blocks = blocks }) cursor rows
     × Tallied blocks (tally .coordinates) had)
     × SoundState state × SoundExps exps × (tally .coupled ≤ blk) × Kept (header .fscod) memos exps
 
@@ -41,8 +43,13 @@ again c =
     let test = t .before .before .before .before .before .before in
     let after = t .audio-block .ensures in
     let before = test .before .loop .inv .0 in
-    let next = after .0 (before .0) (before .2) in
-    ((before .0 ++ next .0 ∷ [], turn (before .1) (test .loop-test .taken) (next .1), next .2), after .1 .0, after .1 .1 .0, after .1 .1 .1 .0, after .1 .1 .1 .1)
+    let next = after .0 (before .0) (before .2) in (
+      (before .0 ++ next .0 ∷ [], turn (before .1) (test .loop-test .taken) (next .1), next .2),
+      after .1 .0,
+      after .1 .1 .0,
+      after .1 .1 .1 .0,
+      after .1 .1 .1 .1,
+    )
 
 reads : tie.Need-returns-2 Inv-loop μ-loop
 unfolding audio

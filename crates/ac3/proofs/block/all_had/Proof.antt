@@ -45,7 +45,11 @@ again c =
     let t1 = c .before in
     let args = t1 .before .before .before .args in
     let ch = t1 .before .before .loop .ch in
-    below-more _ ch (t1 .before .before .loop .inv) (good (getD (args .t1) ch false) (getD (args .t2) ch false) (sym (t1 .and-not .ensures) ∙ c .if1 .left))
+    below-more
+    _
+    ch
+    (t1 .before .before .loop .inv)
+    (good (getD (args .t1) ch false) (getD (args .t2) ch false) (sym (t1 .and-not .ensures) ∙ c .if1 .left))
 
 holds : tie.Need-returns-2 Inv-loop μ-loop
 holds c = sym (every-all _ 5 (λ k l. c .before .loop .inv k (omega arith)))

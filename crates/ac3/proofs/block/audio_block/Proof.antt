@@ -1,5 +1,5 @@
--- `ac3::block::audio_block` meets its contract: a `then` for each section, in the order of the table; and whether coordinates were sent is told
--- of the blocks before and this one. Assumes nothing.
+-- `ac3::block::audio_block` meets its contract: a `then` for each section, in the order of the table; and this block is tallied with those
+-- before it. Assumes nothing.
 use mathlib.Core.List.{[]}
 use mathlib.Core.Path.{_∙_}
 use borrow.Author.Needs.{needs}
@@ -68,8 +68,8 @@ same-length c =
     let t5 = t6 .before .before .before .before in
     let t4 = exponents-before t5 in
     let t3 = coupling-before t4 in
-    t7 .mantissas .ensures .0 [] .long ∙ t6 .skip-field .ensures .long ∙ t5 .alloc-state .ensures .0 .long ∙ t4 .exponent-section .ensures .0 .long
-    ∙ t3 .coupling-section .ensures .0 .long ∙ t3 .before .before .before .channel-settings .ensures .long
+    t7 .mantissas .ensures .0 [] .long ∙ t6 .skip-field .ensures .long ∙ t5 .alloc-state .ensures .0 .long
+    ∙ t4 .exponent-section .ensures .0 .long ∙ t3 .coupling-section .ensures .0 .long ∙ t3 .before .before .before .channel-settings .ensures .long
 
 reads : tie.Need-returns
 unfolding audioBlock

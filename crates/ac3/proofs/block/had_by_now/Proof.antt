@@ -1,4 +1,5 @@
--- `ac3::block::had_by_now` meets its contract: the channels before the one that is looked at are done, and a store changes none of them. Assumes nothing.
+-- `ac3::block::had_by_now` meets its contract: the channels before the one that is looked at are done, and a store changes none of them.
+-- Assumes nothing.
 use mathlib.Core.Bool.{false, _&&_, _||_}
 use mathlib.Core.Path.{_≡_, refl, _∙_}
 use Prim.Native.Nat.{ℕ, _-_, _<_}

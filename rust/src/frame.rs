@@ -28,8 +28,8 @@ pub struct Summary {
     pub block_starts: [usize; 6],
     /// Bit positions of each block's mantissas.
     pub mantissa_starts: [usize; 6],
-    /// Whether in every block each coupled channel has coordinates: cplcoe 1 there, or in an earlier block while it was coupled. Yes where no
-    /// block uses coupling.
+    /// Whether in every block each coupled channel has cplcoe 1, or had it in an earlier block while it was coupled; yes where no block uses
+    /// coupling.
     pub coordinates_sent: bool,
 }
 

@@ -241,8 +241,11 @@ fn told_what_did_not_fit(ample: &Ample) -> Result<(), String> {
 /// 1 there, or had it in an earlier block while it was coupled. (cplinu and chincpl say which are coupled, as last sent.)
 fn coordinates_sent(rows: &[i32]) -> bool {
     let [cplinu, chincpl, cplcoe] = ["cplinu", "chincpl", "cplcoe"].map(names::number);
+    let flags = rows.chunks(ROW);
+    let flags = flags.filter(|r| [cplinu, chincpl, cplcoe].contains(&r[row_at::NAME]));
+    let flags: Vec<&[i32]> = flags.collect();
     let of = |name: i32, block: i32| {
-        let named = rows.chunks(ROW).filter(move |r| r[row_at::NAME] == name);
+        let named = flags.iter().filter(move |r| r[row_at::NAME] == name);
         named.filter(move |r| r[row_at::BLOCK] == block)
     };
     let mut coupled = [[false; 5]; 6];
@@ -259,7 +262,7 @@ fn coordinates_sent(rows: &[i32]) -> bool {
         }
     }
     let has = |block: usize, channel: usize| {
-        let sent = |row: &[i32]| (row[row_at::INDEX], row[row_at::VALUE]) == (channel as i32, 1);
+        let sent = |row: &&[i32]| (row[row_at::INDEX], row[row_at::VALUE]) == (channel as i32, 1);
         coupled[block][channel] && of(cplcoe, block as i32).any(sent)
     };
     (0..6).all(|block| {

@@ -71,11 +71,11 @@ Apart (m ∷ ms) = (among m editable ≡ false) × Apart ms
 
 apart : (names : List ℕ) → Apart names → (name : ℕ) → T (among name names) → among name editable ≡ false
 apart [] a name t = absurd t
-apart (m ∷ ms) a name t = go (eqb name m) refl t
+apart (m ∷ ms) a name t = go (eqb name m) refl t (apart ms (a .1) name)
   where
-    go : (b : Bool) → eqb name m ≡ b → T (b || among name ms) → among name editable ≡ false
-    go true e t = ap (λ n. among n editable) (eqb-true name m e) ∙ a .0
-    go false e t = apart ms (a .1) name t
+    go : (b : Bool) → eqb name m ≡ b → T (b || among name ms) → (T (among name ms) → among name editable ≡ false) → among name editable ≡ false
+    go true e t later = ap (λ n. among n editable) (eqb-true name m e) ∙ a .0
+    go false e t later = later t
 
 abbrev isFree : Kind → Bool
 isFree steering = false
@@ -85,7 +85,7 @@ isFree spanning = false
 by-kind : (k : Kind) (name : ℕ) → T (kindFits k name) → among name editable ≡ isFree k
 by-kind steering name t = first-false (among name editable) (among name spans) t
 by-kind unsteering name t = is-true (among name editable) t
-by-kind spanning name t = apart spans (refl, refl, refl, tt) name t
+by-kind spanning name t = apart spans (refl, (refl, (refl, tt))) name t
 
 -- ---- the room after other bits
 
@@ -193,7 +193,7 @@ module _ (r : Row) where
 
   nth-outside : (rows : List Row) (i p : ℕ) → Nth i rows r → T (among (r .item .name) editable) → frame.OutsideEditable rows p → ¬ Holds r p
   nth-outside [] i p h t out = absurd h
-  nth-outside (x ∷ xs) zero p h t out = subst (λ (y : Row). T (among (y .item .name) editable || among (y .item .name) spans) → ¬ Holds y p) h (out .0) (either _ _ t)
+  nth-outside (x ∷ xs) zero p h t out = subst (λ (y : Row). T (among (y .item .name) editable || among (y .item .name) spans) → ¬ Holds y p) h (out .0) (either (among (r .item .name) editable) (among (r .item .name) spans) t)
   nth-outside (x ∷ xs) (suc i) p h t out = nth-outside xs i p h t (out .1)
 
   -- it lies between the ends of the list
@@ -210,8 +210,10 @@ module _ (r : Row) where
 -- ---- one field
 
 set-append-right : {A : Type 0} (xs ys : List A) (i : ℕ) (a : A) → list.set (xs ++ ys) (length xs + i) a ≡ xs ++ list.set ys i a
-set-append-right [] ys i a = ap (λ n. list.set ys n a) (omega arith)
-set-append-right (x ∷ xs) ys i a = ap (λ n. list.set (x ∷ xs ++ ys) n a) (omega arith) ∙ ap (λ l. x ∷ l) (set-append-right xs ys i a)
+set-append-right [] ys i a = let same : 0 + i ≡ i = omega arith in ap (λ n. list.set ys n a) same
+set-append-right (x ∷ xs) ys i a =
+    let next : suc (length xs) + i ≡ suc (length xs + i) = omega arith in
+    ap (λ n. list.set (x ∷ xs ++ ys) n a) next ∙ ap (λ l. x ∷ l) (set-append-right xs ys i a)
 
 module _ (s t : List ℕ) where
   reread-same : (k : Kind) (i : Item) (at w v : ℕ) → value t at w ≡ value s at w → reread t (row k i at w v) ≡ reread s (row k i at w v)
@@ -294,20 +296,19 @@ module _ (c : Call) (i v : ℕ) (ok : Accepted c) (r : Row) (n : Nth i (listed c
   within : c .place * 8 + r .at + r .width ≤ length (c .capture) * 8
   within = omega (arith, inside, width .0, length-drop (c .place) (c .capture))
 
-  changed : List ℕ
+  abbrev changed : List ℕ
   changed = put (c .capture) (c .place * 8 + r .at) (r .width) v
 
   is-set : set (c .capture) (c .place) (r .at) (r .width) v ≡ (0, changed)
-  unfolding set changed
+  unfolding set
   is-set =
       let w = r .width in
       rw (ne-eqb w 0 (λ e. omega (arith, width .0)), le-ltb 16 w (width .1), le-ltb (length (c .capture) * 8) (c .place * 8 + r .at + w) within, lt-leb (2 ^ w) v small)
 
-  after : Call
+  abbrev after : Call
   after = call changed (c .place) (c .room)
 
   input-after : input after ≡ put (input c) (r .at) (r .width) v
-  unfolding after changed
   input-after = put-drop (c .capture) (c .place) (r .at) (r .width) v
 
   others : (p : ℕ) → ¬ Holds r p → bitAt (input after) p ≡ bitAt (input c) p
@@ -322,7 +323,6 @@ module _ (c : Call) (i v : ℕ) (ok : Accepted c) (r : Row) (n : Nth i (listed c
           past-it (Dec.no m) = omega arith
 
   edit : frame.Edited c after
-  unfolding after
   edit =
       record {
         long = sym (ap length input-after ∙ put-count (input c) (r .at) (r .width) v);

@@ -29,10 +29,10 @@ ended : (name : ℕ) (l : List ℕ) (i : ℕ) → length l ≤ i → among name 
 ended name l i h = ap (among name) (drop-of-length-le l {i = i} h)
 
 abbrev Inv-loop : tie.InvT-loop
-Inv-loop names name i₀ i = among name (drop i names) ≡ among name names
+Inv-loop name names i₀ i = among name (drop i names) ≡ among name names
 
 abbrev μ-loop : tie.MeasureT-loop
-μ-loop names name i₀ i = length names - i
+μ-loop name names i₀ i = length names - i
 
 pub among-spec : {M : Type 1} → statement M
 among-spec =
@@ -41,10 +41,10 @@ among-spec =
     Inv-loop
     μ-loop
     (λ c. refl)  -- loop-holds
-    (λ c. search needs)
-    (λ c. ?)
-    (λ c. ?)
-    (λ c. ?)
-    (λ c. ?)
-    (λ c. ?)
-    (λ c. ?))
+    (λ c. search needs)  -- shared-slice-read-if1
+    (λ c. omega (arith, c .shared-slice-known .given (c .before .before .loop .i)))  -- cast-if1
+    (λ c. let at = c .before .before .before in found (at .before .args .name) (at .before .args .names .now) (at .loop .i) (omega arith) (at .loop .inv) (c .if1 .taken))  -- returns
+    (λ c. search needs)  -- add-i
+    (λ c. search needs)  -- loop-less
+    (λ c. let at = c .before .before .before in goes-on (at .before .args .name) (at .before .args .names .now) (at .loop .i) (omega arith) (at .loop .inv) (c .if1 .left))  -- loop-again
+    (λ c. let at = c .before in sym (ended (at .before .args .name) (at .before .args .names .now) (at .loop .i) (omega arith)) ∙ at .loop .inv))  -- returns-2

@@ -1,7 +1,7 @@
 -- `edits::set` meets its contract: the checks are the definition's, in its order, and what it writes into the part from the place on is
 -- written into the capture. Assumes nothing.
 use borrow.Author.Needs.{needs}
-use borrow.Author.Tests.{leb-true, leb-false}
+use borrow.Author.Tests.{leb-true, leb-false, not-true, not-false}
 use mathlib.Core.Path.{_≡_, ap, sym, _∙_}
 use native.Mathlib.Omega.{arith}
 use Prim.Native.Nat.{_+_, _-_, _*_, _^_, _≤_, _<_}
@@ -30,14 +30,14 @@ returns-4 c =
     let wide = asked .before .before in
     let a = wide .before .before .before .args in
     let bytes = length (a .capture .now) in
-    let no = leb-false (a .position + a .width) ((bytes - a .place) * 8) (sym (asked .within .ensures) ∙ c .if4 .taken) in
+    let no = leb-false (a .position + a .width) ((bytes - a .place) * 8) (sym (asked .within .ensures) ∙ not-true _ (c .if4 .taken)) in
     past-the-end (a .capture .now) (a .place) (a .position) (a .width) (a .value) (wide .before .if1 .left) (wide .if2 .left) (omega (arith, no, asked .before .if3 .left))
 
 inside : (c : tie.Else4) → let a = c .before .before .before .before .before .before .args in a .place * 8 + a .position + a .width ≤ length (a .capture .now) * 8
 inside c =
     let asked = c .before in
     let a = asked .before .before .before .before .before .args in
-    omega (arith, leb-true (a .position + a .width) ((length (a .capture .now) - a .place) * 8) (sym (asked .within .ensures) ∙ c .if4 .left), asked .before .if3 .left)
+    omega (arith, leb-true (a .position + a .width) ((length (a .capture .now) - a .place) * 8) (sym (asked .within .ensures) ∙ not-false _ (c .if4 .left)), asked .before .if3 .left)
 
 returns-5 : tie.Need-returns-5
 returns-5 c =

@@ -22,6 +22,7 @@ use Rattle.syntax.specs.Numbers.{rowWidth, numbers}
 use Rattle.syntax.specs.Place.{flatten}
 use Rattle.syntax.specs.Rows.{Tiles, Holds, reread}
 use Rattle.syntax.specs.Run.{Kind, steering, unsteering, spanning, Row, row}
+use Rattle.syntax.proofs.Tiles.{tiles-le}
 use Rattle.ac3.specs.Editing as frame
 use Rattle.ac3.specs.Marked.{among, kindFits, widthFits, KindsFit, WidthsFit}
 use Rattle.ac3.specs.Promise.{Call, call, input, roomFor, listed, bitOf, answerTo, Accepted}
@@ -51,10 +52,6 @@ nth : (rows : List Row) (i : ℕ) → i < length rows → (r : Row) × Nth i row
 nth [] i h = absurd (omega arith)
 nth (x ∷ xs) zero h = (x, refl)
 nth (x ∷ xs) (suc i) h = nth xs i (omega arith)
-
-tiles-le : (rows : List Row) (from to : ℕ) → Tiles from rows to → from ≤ to
-tiles-le [] from to h = omega arith
-tiles-le (r ∷ rs) from to h = omega (arith, tiles-le rs (from + r .width) to (h .1))
 
 either : (a b : Bool) → T a → T (a || b)
 either true b t = tt

@@ -204,6 +204,11 @@ fn may_be_edited(row: &[i32]) -> bool {
     editable(row[row_at::NAME] as usize)
 }
 
+/// The numbers of the names that are neither in the list nor spans.
+pub fn not_listed() -> impl Iterator<Item = usize> {
+    (1..=COUNT).filter(|n| !editable(*n) && !is_span(*n as i32))
+}
+
 /// Sizes and counts that are far out.
 fn far(rng: &mut Rng) -> usize {
     let near = rng.below(40);
@@ -524,22 +529,15 @@ impl<'s> Edits<'s> {
     }
 
     /// One field that is neither in the list nor a span is given another value: is anything else than that value another, or is it refused?
-    fn steer(&mut self, before: &[u8], place: usize, whole: &Ample) {
-        let others = whole.rows.chunks(ROW).filter(|row| !may_be_edited(row));
-        let others: Vec<&[i32]> = others.filter(|r| !is_span(r[row_at::NAME])).collect();
-        let steering = self.steering;
-        let row = self.pick(&others, |name| steering[name as usize].differed);
-        let row = row.expect("the sync word is always there");
+    fn steer(&mut self, before: &[u8], place: usize, whole: &Ample, row: &[i32]) {
         let write = self.value(row, true);
         let mut after = before.to_vec();
         let answer = set(&mut after, place, write.position, write.width, write.value);
         assert_eq!(answer, 0);
         let edited = self.judge.ample(&after, place);
         let mut expected = whole.rows.clone();
-        let at = (0..expected.len())
-            .step_by(ROW)
-            .find(|at| expected[at + row_at::POS] as usize == write.position);
-        expected[at.expect("the row") + row_at::VALUE] = write.value as i32;
+        let its = expected.chunks_mut(ROW).find(|other| *other == row);
+        its.expect("the row")[row_at::VALUE] = write.value as i32;
         let differs = edited.answer.verdict.is_err() || edited.rows != expected;
         let name = names::of(row[row_at::NAME]).text;
         let of = || format!("place {place} of {}\n{write:?}", hex::of(before));
@@ -565,7 +563,12 @@ impl<'s> Edits<'s> {
         for i in 0..edits {
             self.edit(&capture, place, &whole);
             if i % 4 == 0 {
-                self.steer(&capture, place, &whole);
+                let others = whole.rows.chunks(ROW).filter(|row| !may_be_edited(row));
+                let others: Vec<&[i32]> = others.filter(|r| !is_span(r[row_at::NAME])).collect();
+                let steering = self.steering;
+                let row = self.pick(&others, |name| steering[name as usize].differed);
+                let row = row.expect("the sync word is always there");
+                self.steer(&capture, place, &whole, row);
             }
         }
     }
@@ -606,11 +609,38 @@ impl<'s> Edits<'s> {
                 self.frame(&frame, OF_A_FRAME.min(count - self.edits));
             }
         }
+        self.seek();
     }
 
-    /// The numbers of the names that are neither in the list nor spans.
-    pub fn not_listed() -> impl Iterator<Item = usize> {
-        (1..=COUNT).filter(|n| !editable(*n) && !is_span(*n as i32))
+    /// Names that were not yet seen to steer: delta segments of coupling rarely do, so frames full of them are drawn until they are.
+    fn seek(&mut self) {
+        for _ in 0..1000 {
+            let left = self.not_seen_to_steer();
+            if left.is_empty() {
+                return;
+            }
+            let style = Style {
+                coupling: 100,
+                change: 100,
+                delta: 100,
+                snr: 25,
+                ..Style::random(&mut self.rng)
+            };
+            let Some(frame) = accepted(style, &mut self.rng) else {
+                continue;
+            };
+            let whole = self.judge.ample(&frame, 0);
+            for row in whole.rows.chunks(ROW) {
+                if left.contains(&(row[row_at::NAME] as usize)) {
+                    self.steer(&frame, 0, &whole, row);
+                }
+            }
+        }
+    }
+
+    fn not_seen_to_steer(&self) -> Vec<usize> {
+        let not_seen = not_listed().filter(|n| self.steering[*n].differed == 0);
+        not_seen.collect()
     }
 
     /// What was to be reached and was not.
@@ -635,7 +665,7 @@ impl<'s> Edits<'s> {
             .iter()
             .filter(|w| !self.elsewhere.contains_key(*w));
         missed.extend(elsewhere.map(|what| format!("no edit: {what}")));
-        let steering = Self::not_listed().filter(|n| self.steering[*n].differed == 0);
+        let steering = self.not_seen_to_steer().into_iter();
         missed.extend(steering.map(|n| format!("no edit of {} made a difference", text(n))));
         missed
     }

@@ -181,11 +181,11 @@ bool ferrysprig_range_eq(const uint8_t *x, size_t x_len, size_t a, const uint8_t
    the same rows but for those values, which is proved; so do other bits inside spans and from audio_end on. */
 bool ferrysprig_editable(size_t name);
 
-/* Writes a value of `width` bits at bit `position` of what begins at byte `place` of `capture`, most significant bit first: for a row of the
-   frame at that place, its position and width. Those bits are the value then, and all others are as they were. The answer is 0, or the first
-   of these that holds, and then nothing is written (see FERRYSPRIG_MEANINGS): 57 if the width is not 1 to 16, 58 if 8 place + position +
-   width is more than 8 capture_len (however large the numbers), 59 if the value is 2 to the width or more. That the row may be edited is not
-   looked at. */
+/* Writes a value of `width` bits at bit `position` of what begins at byte `place` of `capture`, most significant bit first: for a row of
+   the frame at that place, its position and width. Those bits are the value then, and all others are as they were. The answer is 0, or the
+   first of these that holds, and then nothing is written (see FERRYSPRIG_MEANINGS): 57 if the width is not 1 to 16, 58 if 8 place +
+   position + width is more than 8 capture_len (however large the numbers), 59 if the value is 2 to the width or more. That the row may be
+   edited is not looked at, and no checksum is mended. */
 uint8_t ferrysprig_set(uint8_t *capture, size_t capture_len, size_t place, size_t position, size_t width, size_t value);
 
 /* IEC 61937 data bursts: a frame as 6,144 bytes, and back. docs/FORMAT.md has a burst word by word. */

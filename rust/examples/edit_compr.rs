@@ -44,6 +44,7 @@ fn edit_compr(path: &Path, value: u32) -> Result<(), (u8, String)> {
     // Not `print`, which panics where nobody reads on.
     io::stdout()
         .write_all(format!("before\n{before}after\n{after}").as_bytes())
+        .and_then(|()| io::stdout().flush())
         .map_err(|e| (TROUBLE, format!("cannot print: {e}")))
 }
 

@@ -74,8 +74,8 @@ pub fn set(capture: &mut [u8], place: usize, field: &Field, value: u32) -> Resul
     set_bits(capture, place, field.pos, field.width, value as usize)
 }
 
-/// Writes a value of `width` bits, most significant first, at bit `position` of what begins at byte `place` of `capture`. Those bits are the
-/// value then, and all others as they were. On a refusal nothing is written.
+/// Writes a value of `width` bits, most significant first, at bit `position` of what begins at byte `place` of `capture`. Those bits are
+/// the value then, and all others as they were. On a refusal nothing is written.
 ///
 /// ```
 /// use ferrysprig::edit::{set_bits, Refusal};

@@ -60,9 +60,9 @@ impl Field {
         self.pos + self.width
     }
 
-    /// Whether its value never steers the rest, so that [`edit::set`](crate::edit::set) may write another one and every other field stays as
-    /// it is. It is so for 39 of the [`NAMES`](crate::NAMES) and for nothing of the tail. (The bits of spans are free as well, but they are
-    /// no value.)
+    /// Whether its value never steers the rest, so that [`edit::set`](crate::edit::set) may write another one and every other field stays
+    /// as it is. It is so for 39 of the [`NAMES`](crate::NAMES) and for nothing of the tail. (The bits of spans are free as well, but they
+    /// are no value.)
     pub fn editable(&self) -> bool {
         number_of(self.name).is_some_and(raw::editable)
     }

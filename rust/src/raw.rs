@@ -92,8 +92,8 @@ pub fn editable(name: usize) -> bool {
 
 /// Writes a value of `width` bits at bit `position` of what begins at byte `place` of `capture`; the refusal, 0 for none.
 pub fn set(capture: &mut [u8], place: usize, position: usize, width: usize, value: usize) -> u8 {
-    // SAFETY: pointer and length are those of a slice that lives through the call and is borrowed mutably, so nothing else refers to it. The
-    // function asks nothing more of its caller, writes only there, and keeps no pointer.
+    // SAFETY: pointer and length are those of a slice that lives through the call and is borrowed mutably, so nothing else refers to it.
+    // The function asks nothing more of its caller, writes only there, and keeps no pointer.
     unsafe {
         ferrysprig_set(
             capture.as_mut_ptr(),

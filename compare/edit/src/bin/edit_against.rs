@@ -1,7 +1,7 @@
-//! edit_against SEED COUNT: holds the port's list of names that may be edited against the judge's, number by number; then runs the generator
-//! of edits and holds the port's answers to `set`, and every byte that it leaves, against the judge's, and its answer and every number of
-//! its room for each of COUNT frames that its own `set` edited. Prints what was compared; status 1 on a difference, or where a refusal, an
-//! edge or a name was not met.
+//! edit_against SEED COUNT: holds the port's list of names that may be edited against the judge's, number by number; then runs the
+//! generator of edits and holds the port's answers to `set`, and every byte that it leaves, against the judge's, and its answer and every
+//! number of its room for each of COUNT frames that its own `set` edited. Prints what was compared; status 1 on a difference, or where a
+//! refusal, an edge or a name was not met.
 
 use compare_edit::raw;
 use judge::agree::fresh_room;
@@ -54,8 +54,8 @@ fn compare_set(call: &Call<'_>, differences: &mut Differences) {
     }
 }
 
-/// An edit made by the port's `set`, and the edited frame parsed by the port, in room that leaves some numbers over; both against the judge.
-/// Gives how many numbers of the room were compared.
+/// An edit made by the port's `set`, and the edited frame parsed by the port, in room that leaves some numbers over; both against the
+/// judge. Gives how many numbers of the room were compared.
 fn compare_edit(edit: &Edit<'_>, left_over: usize, differences: &mut Differences) -> usize {
     let mut capture = edit.before.to_vec();
     let refused = edit

@@ -43,9 +43,11 @@ enum {
     FERRYSPRIG_ROW_INDEX = 4,     /* channel, band or slot, or -1 */
     FERRYSPRIG_ROW_POSITION = 5,  /* the first bit, counted from the frame's first, most significant bit of a byte first */
     FERRYSPRIG_ROW_WIDTH = 6,     /* in bits; at most 16, except for a span, which may have any, 0 included */
-    FERRYSPRIG_ROW_VALUE = 7      /* the bits as a number; 0 for a span */
+    FERRYSPRIG_ROW_VALUE = 7,     /* the bits as a number; 0 for a span */
+    FERRYSPRIG_ROW_PART = 8       /* from 0: the band of cplcoexp and cplcomant, the group of cplexps, exps[ch] and lfeexps, the segment of
+                                     a delta offset, length or ba (coupling's too); -1 for every other name */
 };
-#define FERRYSPRIG_ROW_NUMBERS 8
+#define FERRYSPRIG_ROW_NUMBERS 9
 
 /* The numbers of an answer. From FERRYSPRIG_ANSWER_SUMMARY to FERRYSPRIG_ANSWER_COORDINATES_SENT they are the summary of an accepted frame,
    and 0 on a refusal; yes is 1. */

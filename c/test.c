@@ -75,7 +75,8 @@ static void try_calls(void) {
     const int32_t *third = &rows[2 * WIDTH];
     holds("its third row", third[FERRYSPRIG_ROW_NAME] == 3 && third[FERRYSPRIG_ROW_ROLE] == FERRYSPRIG_ROLE_FRAME_SIZE
               && third[FERRYSPRIG_ROW_PROGRAMME] == -1 && third[FERRYSPRIG_ROW_BLOCK] == -1 && third[FERRYSPRIG_ROW_INDEX] == -1
-              && third[FERRYSPRIG_ROW_POSITION] == 32 && third[FERRYSPRIG_ROW_WIDTH] == 2 && third[FERRYSPRIG_ROW_VALUE] == 3);
+              && third[FERRYSPRIG_ROW_POSITION] == 32 && third[FERRYSPRIG_ROW_WIDTH] == 2 && third[FERRYSPRIG_ROW_VALUE] == 3
+              && third[FERRYSPRIG_ROW_PART] == -1);
     parse(6, 0, 4 * WIDTH - 1);
     holds("one number too few for its fourth row", refused(7, 3, 34));
     parse(6, 0, WIDTH - 1);
@@ -95,12 +96,33 @@ static void parse_frame(const uint8_t *front, size_t length) {
     ferrysprig_parse(frame, sizeof frame, 0, room, sizeof room / sizeof *room, answer);
 }
 
+/* Whether the rows of a name and index in `room` are so many parts, in order, each of them with its number (of four bits) as value. */
+static bool parts(int32_t name, int32_t index, int32_t count) {
+    int32_t next = 0;
+    for (int32_t i = 0; i < answer[FERRYSPRIG_ANSWER_ROWS]; i++) {
+        const int32_t *row = &room[i * WIDTH];
+        if (row[FERRYSPRIG_ROW_NAME] != name || row[FERRYSPRIG_ROW_INDEX] != index)
+            continue;
+        if (row[FERRYSPRIG_ROW_PART] != next || row[FERRYSPRIG_ROW_VALUE] != next % 16)
+            return false;
+        next++;
+    }
+    return next == count;
+}
+
 /* Frames of judge/corners.txt. */
 static void try_frames(void) {
     const uint8_t plain[] = {0x0B, 0x77, 0x00, 0x00, 0x00, 0x40, 0x20, 0x00, 0x0B, 0x00, 0x1F, 0x3E, 0x7C, 0xF9, 0xF3, 0xE2, 0x00, 0x20};
     parse_frame(plain, sizeof plain);
     holds("an accepted frame", answer[FERRYSPRIG_ANSWER_REFUSAL] == 0 && answer[FERRYSPRIG_ANSWER_ROWS] == 95
               && answer[FERRYSPRIG_ANSWER_AUDIO_END] == 204 && unfit(0, -1));
+    const uint8_t bands[] = {0x0B, 0x77, 0x00, 0x00, 0x00, 0x40, 0x40, 0x00, 0x00, 0xF0, 0x78, 0x00, 0x02, 0x00, 0x08, 0x91, 0x19, 0xA2,
+        0x2A, 0xB3, 0x3B, 0xC4, 0x4C, 0xD5, 0x5D, 0xE6, 0x6E, 0xF7, 0x7F, 0x80, 0x08, 0xC0, 0x01, 0x12, 0x23, 0x34, 0x45, 0x56, 0x67, 0x78,
+        0x89, 0x9A, 0xAB, 0xBC, 0xCD, 0xDE, 0xEF, 0xF0, 0x01, 0x19, 0xF8, 0x3E, 0x7C, 0xF9, 0xF3, 0xE7, 0xCF, 0x9F, 0x3E, 0x7C, 0xF9, 0xF3,
+        0xE7, 0xCF, 0x9F, 0x3E, 0x7C, 0x0F, 0x9F, 0x3E, 0x01, 0xF3, 0xE7, 0xC4, 0x00, 0x40};
+    parse_frame(bands, sizeof bands);
+    holds("18 bands of coordinates", answer[FERRYSPRIG_ANSWER_REFUSAL] == 0 && parts(64, 0, 18) && parts(64, 1, 18) && parts(65, 0, 18)
+              && parts(65, 1, 18));
     const uint8_t no_cplstre[] = {0x0B, 0x77, 0x00, 0x00, 0x00, 0x40, 0x20};
     parse_frame(no_cplstre, sizeof no_cplstre);
     holds("no cplstre in block 0", refused_at(8, 21, 69) && unfit(0, -1));

@@ -15,6 +15,7 @@ WALK = '''            conventional(cur, &bap[ch], 0, endmant[ch], &mut g)?;
             }
 '''
 RECORD = '        let at = ROW * self.count;\n'
+READ = '        self.check(width, name, name)?;\n        let (block, pos)'
 SLIPS = [  # what, file, old, new
     # the slips that docs/FORMAT.md shuts out
     ('coupling range to its last bin', CUT, 'let cplend = 37 + 12 * (cplendf + 3);', 'let cplend = 37 + 12 * (cplendf + 3) - 1;'),
@@ -24,24 +25,33 @@ SLIPS = [  # what, file, old, new
     ('delta cleared by deltbaie 0 in a later block', CUT, '        } else if blk == 0 {\n            for d', '        } else {\n            for d'),
     ('coupling channels kept after cplinu 0', CUT, '                chincpl = [false; 5];\n                phsflginu', '                phsflginu'),
     # room and rows
-    ('room before the frame end', MOD, '        self.check(width, name, name)?;\n        let value', '        if ROW * self.count + ROW > self.room.len() { return no(7, ""); }\n        self.check(width, name, name)?;\n        let value'),
+    ('room before the frame end', MOD, READ, '        if ROW * self.count + ROW > self.room.len() { return no(7, ""); }\n' + READ),
     ('a row in the left-over numbers', MOD, RECORD, RECORD + '        if at < self.room.len() && at + ROW > self.room.len() { self.room[at] = 0; }\n'),
-    ('refusal 7 at the start of the mantissas', MOD, '        self.record(name, role, -1, start, self.pos - start, 0)', '        let width = self.pos - start;\n        if ROW * self.count + ROW > self.room.len() { self.pos = start; }\n        self.record(name, role, -1, start, width, 0)'),
-    ('no row for spans of width 0', MOD, RECORD, '        if width == 0 { return Ok(()); }\n' + RECORD),
+    ('refusal 7 at the start of the mantissas', MOD, '        self.record_span(name, role, start, self.pos - start)', '        let width = self.pos - start;\n        if ROW * self.count + ROW > self.room.len() { self.pos = start; }\n        self.record_span(name, role, start, width)'),
+    ('no row for spans of width 0', MOD, RECORD, '        if field.width == 0 { return Ok(()); }\n' + RECORD),
     ('the place counted in positions', MOD, '    let verdict = ac3::parse(&mut cur);', '    let verdict = ac3::parse(&mut cur);\n    cur.pos += if verdict.is_err() { place.min(1) } else { 0 };'),
     ('programme of dynrng2 is 0', 'src/names.rs', 'Role::Dynrng(p) => (10, i32::from(p))', 'Role::Dynrng(_) => (10, 0)'),
     ('index of coupling delta segments is 0', MOD, '            index,\n', '            index: if name == "cpldeltoffst" { 0 } else { index },\n'),
     ('coordinates judged in the last coupled block', CUT, 'if cpl_blocks == 1 {', 'if cpl_blocks >= 1 {'),
     ('blocks with a new strategy counted', CUT, '            cpl_blocks += 1;', '            cpl_blocks += usize::from(cplstre);'),
+    # which band, group or segment
+    ('bands counted from 1', CUT, 'cur.get_part("cplcoexp", ch, bnd, 4)', 'cur.get_part("cplcoexp", ch, bnd + 1, 4)'),
+    ('bands counted across the channels', CUT, 'cur.get_part("cplcomant", ch, bnd, 4)', 'cur.get_part("cplcomant", ch, bnd + ch * ncplbnd, 4)'),
+    ('the absolute exponent told as a group', BLOCKS, 'cur.geti(absname, index, 4)', 'cur.get_part(absname, index, 0, 4)'),
+    ('groups counted by their exponents', BLOCKS, 'cur.get_part(grpname, index, grp, 7)', 'cur.get_part(grpname, index, 3 * grp, 7)'),
+    ('the ba of a segment told with the one before', BLOCKS, 'cur.get_part(b, slot, seg, 3)', 'cur.get_part(b, slot, seg.saturating_sub(1), 3)'),
+    ('segments of coupling not told', BLOCKS, 'cur.get_part(l, slot, seg, 4)', 'if slot == CPL { cur.geti(l, slot, 4) } else { cur.get_part(l, slot, seg, 4) }'),
+    ('rows eight numbers apart', MOD, RECORD, RECORD.replace('ROW', '8')),
+    ('a row without its part in eight numbers', MOD, RECORD, RECORD + '        if at + 8 == self.room.len() { self.room[at..].copy_from_slice(&row(field, part)[..8]); self.count += 1; return Ok(()); }\n'),
     # what a refusal tells
     ('rematstr told as baie', CUT, 'no(21, "rematstr', 'no(22, "rematstr'),
     ('snroffste told as cplstre', CUT, 'no(23, "snroffste', 'no(8, "snroffste'),
     ('a skip field told as skipl', MOD, 'name: names::number(name),', 'name: names::number(name) - i32::from(name == "skipfld"),'),
     ('mantissas told as the field before', MOD, 'self.check(width, what, "mantissas")?', 'self.check(width, what, "skiple")?'),
     ("a block's first field told in the block before", MOD, 'block: self.block.into(),', 'block: i32::from(self.block) - i32::from(name == "blksw"),'),
-    ('what has no row told too', MOD, 'return no(7, "no row left");', 'return Err(No { number: 7, text: String::new(), unfit: Unfit { name: names::number(name), block: self.block.into() } });'),
+    ('what has no row told too', MOD, 'return no(7, "no row left");', 'return Err(No { number: 7, text: String::new(), unfit: Unfit { name: names::number(field.name), block: self.block.into() } });'),
     # order and limits of judgements
-    ('row for a bad group not written', MOD, '        self.count += 1;\n', '        if !(name == "exps[ch]" && value > 124) { self.count += 1; }\n'),
+    ('row for a bad group not written', MOD, '        self.count += 1;\n', '        if !(field.name == "exps[ch]" && field.value > 124) { self.count += 1; }\n'),
     ('fscod judged before frmsizecod', CUT, '    let frmsizecod =', '    if fscod == 3 { return no(3, ""); }\n    let frmsizecod ='),
     ('cplbegf cplendf + 3 accepted', CUT, 'if cplbegf > cplendf + 2 {', 'if cplbegf > cplendf + 3 {'),
     ('cplbegf cplendf + 2 refused', CUT, 'if cplbegf > cplendf + 2 {', 'if cplbegf > cplendf + 1 {'),

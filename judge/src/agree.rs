@@ -1,5 +1,5 @@
 //! The checks made on every input: the cut copy against the published parser, the rows against
-//! the table of names, what did not fit against the rows and against the same run in a longer frame, and the room rule in the
+//! the table of names, their parts against what the rest of the rows tells, what did not fit against the rows and against the same run in a longer frame, and the room rule in the
 //! cursor against the rule derived from the run with ample room. A disagreement stops the program and shows the input.
 
 use crate::ac3;
@@ -9,6 +9,7 @@ use crate::error::Error;
 use crate::hex;
 use crate::layout::{row, row_at, ROW};
 use crate::names;
+use crate::parts;
 use crate::tables::ac3_frame_words;
 use std::rc::Rc;
 
@@ -56,6 +57,7 @@ impl Judge {
         let ample = Ample { answer: got, rows };
         let data = capture.get(place..).unwrap_or(&[]);
         let agreed = agrees_with_published(&ample, data)
+            .and_then(|_| parts::check(&ample.rows))
             .and_then(|_| told_what_did_not_fit(&ample))
             .and_then(|_| self.comes_next_in_a_longer_frame(&ample, data));
         if let Err(why) = agreed {
@@ -149,7 +151,9 @@ fn agrees_with_published(ample: &Ample, data: &[u8]) -> Result<(), String> {
     }
     match (&got.verdict, ac3::parse(data)) {
         (Ok(s), Ok(f)) => {
-            let published: Vec<i32> = f.fields[..got.rows].iter().flat_map(row).collect();
+            // The published fields have no part: see `parts`.
+            let fields = f.fields[..got.rows].iter().zip(rows.chunks(ROW));
+            let published: Vec<i32> = fields.flat_map(|(f, r)| row(f, r[row_at::PART])).collect();
             same("rows", rows, &published)?;
             let next = &f.fields[got.rows];
             same(

@@ -486,7 +486,7 @@ impl<'s> Generator<'s> {
     fn corner_cases(&mut self, amounts: Amounts) {
         for (i, corner) in (0..).zip(corners::all()) {
             let room = match corner.rows {
-                Some(rows) => Room::Numbers(ROW * rows),
+                Some(_) => corner.room(),
                 None => self.sufficient(),
             };
             let n = corner.capture.len();

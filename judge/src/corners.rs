@@ -17,8 +17,9 @@ pub struct Corner {
     pub what: &'static str,
     pub capture: Vec<u8>,
     pub place: usize,
-    /// Room in rows; none: ample.
+    /// Room in rows; none: ample. And the numbers beyond them, too few for a row more.
     pub rows: Option<usize>,
+    pub left_over: usize,
     /// The number that docs/FORMAT.md gives, 0 for acceptance.
     pub number: u32,
     /// What does not fit, at 6.
@@ -28,6 +29,11 @@ pub struct Corner {
 impl Corner {
     fn rows(mut self, rows: usize) -> Self {
         self.rows = Some(rows);
+        self
+    }
+
+    fn left_over(mut self, numbers: usize) -> Self {
+        self.left_over = numbers;
         self
     }
 
@@ -41,6 +47,15 @@ impl Corner {
         let name = number(name);
         self.unfit = Unfit { name, block };
         self
+    }
+
+    /// The room that it is called with.
+    pub fn room(&self) -> Room {
+        let left_over = self.left_over;
+        match self.rows {
+            Some(rows) => Room::Numbers(ROW * rows + left_over),
+            None => Room::Sufficient { left_over },
+        }
     }
 
     /// The input: its bytes up to the last that is not 0, and how many there are in all.
@@ -60,17 +75,16 @@ impl Corner {
 
     /// The input and the answer, as corners.txt and docs/DIFFERENCES.md hold them.
     pub fn entry(&self, judge: &mut Judge) -> String {
-        let room = match self.rows {
-            Some(rows) => Room::Numbers(ROW * rows),
-            None => Room::Sufficient { left_over: 0 },
-        };
-        let call = judge.call(&self.capture, self.place, room);
+        let call = judge.call(&self.capture, self.place, self.room());
         let mut how = String::new();
         if self.place > 0 {
             how += &format!(" at byte {}", self.place);
         }
         if let Some(rows) = self.rows {
             how += &format!(" with {rows} rows");
+        }
+        if self.left_over > 0 {
+            how += &format!(" and {} numbers", self.left_over);
         }
         format!(
             "{}{how}: {}\n{}\n",
@@ -88,6 +102,7 @@ fn corner(name: &'static str, number: u32, capture: Vec<u8>, what: &'static str)
         capture,
         place: 0,
         rows: None,
+        left_over: 0,
         number,
         unfit: Unfit::NONE,
     }
@@ -222,7 +237,77 @@ pub fn all() -> Vec<Corner> {
     list.extend(reuse());
     list.extend(allocation());
     list.extend(tail_and_room());
+    list.extend(parts());
     list
+}
+
+/// As many parts as there can be, and as few: each of them has its own number as value, as far as the width goes.
+fn parts() -> Vec<Corner> {
+    // The two channels of a pair coupled over all 18 sub-bands, merged or not.
+    let coordinates = |merged: u32| {
+        pair(2, |a| match a.name {
+            "cplbegf" => Some(0),
+            "cplendf" => Some(15),
+            "cplbndstrc" => Some(merged),
+            "cplcoe" => Some((a.block == 0).into()),
+            "cplcoexp" | "cplcomant" => Some(a.nth as u32 % 16),
+            _ => None,
+        })
+    };
+    let groups = sized(0, 8, &|a| match (a.name, a.index) {
+        ("lfeon", _) => Some(1),
+        ("chincpl", 2) => Some(0),
+        ("cplbegf", _) => Some(0),
+        ("cplendf", _) => Some(15),
+        ("chbwcod", _) => Some(60),
+        ("cplexpstr" | "chexpstr", _) if a.block == 0 => Some(1),
+        _ => coupled(3, 2, a),
+    });
+    let segments = sized(0, 4, &|a| match a.name {
+        "deltbaie" => Some((a.block == 0).into()),
+        "cpldeltbae" | "deltbae" => Some(1),
+        "cpldeltnseg" | "deltnseg" => Some(7),
+        "cpldeltoffst" | "deltoffst" | "cpldeltlen" | "deltlen" | "cpldeltba" | "deltba" => {
+            Some(a.nth as u32)
+        }
+        _ => coupled(7, 2, a),
+    });
+    let plain = small(&|_| None);
+    let rows = rows_of(&plain);
+    vec![
+        corner(
+            "bands-eighteen",
+            0,
+            coordinates(0),
+            "coordinates of 18 bands, as many as there can be",
+        ),
+        corner(
+            "bands-one",
+            0,
+            coordinates(1),
+            "18 sub-bands merged into one band",
+        ),
+        corner(
+            "groups-to-the-end",
+            0,
+            groups,
+            "D15 up to bin 253: 72 groups of coupling, 84 of the channel that is not coupled; 12 of the others, 2 of LFE",
+        ),
+        corner(
+            "segments-eight",
+            0,
+            segments,
+            "eight delta segments for coupling and for each of five channels",
+        ),
+        corner(
+            "one-number-too-few",
+            7,
+            plain,
+            "all but one of the numbers that the rows take: none for the last mantissas",
+        )
+        .rows(rows - 1)
+        .left_over(ROW - 1),
+    ]
 }
 
 fn header() -> Vec<Corner> {

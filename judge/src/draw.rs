@@ -21,6 +21,8 @@ pub struct Style {
     /// Optional header parts and dynrng.
     pub extras: usize,
     pub coupling: usize,
+    /// Sub-bands that are merged with the one before.
+    pub merged: usize,
     /// New strategies, exponents and parameters after block 0.
     pub change: usize,
     pub delta: usize,
@@ -44,6 +46,7 @@ impl Style {
             bsid: rng.pick(&[8, 8, 6, 6, 0, 1, 2, 3, 4, 5, 7]),
             extras: rng.pick(&[0, 30, 60, 100]),
             coupling: rng.pick(&[0, 50, 80, 100]),
+            merged: rng.pick(&[0, 10, 50, 100]),
             change: rng.pick(&[0, 20, 50, 100]),
             delta: rng.pick(&[0, 10, 50, 100]),
             skip: rng.pick(&[0, 20, 60]),
@@ -190,6 +193,7 @@ impl Draw {
                 let least = self.cplbegf.saturating_sub(2);
                 least + rng.below(16 - least)
             }
+            "cplbndstrc" => rng.chance(style.merged).into(),
             "cplcoe" => rng.chance(50 + style.change / 2).into(),
             "rematstr" => (first || rng.chance(style.change)).into(),
             "cplexpstr" | "chexpstr" | "lfeexpstr" => match all || rng.chance(style.change) {

@@ -1,10 +1,11 @@
 //! What the inputs are to reach. A goal is a kind and one or two numbers.
 
 use crate::cases::Case;
+use crate::corners;
 use crate::cut::{Unfit, REFUSALS};
 use crate::features::{self, FEATURES};
-use crate::layout::{row_at, ROW};
-use crate::names::{self, number};
+use crate::layout::{row_at, NO_PART, ROW};
+use crate::names::{self, number, Part, NAMES};
 use crate::tables::ac3_frame_words;
 use std::collections::BTreeMap;
 
@@ -37,6 +38,8 @@ pub const SIZE: &str = "fscod, frmsizecod";
 pub const STRATEGY: &str = "block, chexpstr";
 pub const RANGE: &str = "cplbegf, cplendf";
 pub const VALUE: &str = "name, value";
+/// The last band, group or segment of the name in an accepted frame, each counted from 0.
+pub const LAST_PART: &str = "name, last part";
 /// An accepted frame's feature, by its place in the list.
 pub const FEATURE: &str = "feature";
 /// Where in a longer capture, see `PLACES`.
@@ -75,6 +78,18 @@ const VALUES: [(&str, i32); 7] = [
     ("bsmod", 8),
 ];
 
+/// For the names that have bands or segments, every number of them as the last; for those that have groups, the greatest.
+fn last_parts() -> impl Iterator<Item = Goal> {
+    (1..).zip(&NAMES).flat_map(|(n, name)| {
+        let most = name.part.most();
+        let from = match name.part {
+            Part::Group(_) => most - 1,
+            _ => 0,
+        };
+        (from..most).map(move |last| (LAST_PART, n, last))
+    })
+}
+
 /// The goals that a case reaches.
 pub fn reached(case: &Case<'_>) -> Vec<Goal> {
     let mut goals = Vec::new();
@@ -87,6 +102,7 @@ pub fn reached(case: &Case<'_>) -> Vec<Goal> {
     match &answer.verdict {
         Ok(s) => {
             let mut seen = [false; names::COUNT + 1];
+            let mut last_parts = [NO_PART; names::COUNT + 1];
             let mut frmsizecod = 0;
             let mut cplbegf = 0;
             let values = VALUES.map(|(name, _)| number(name));
@@ -94,6 +110,8 @@ pub fn reached(case: &Case<'_>) -> Vec<Goal> {
             let strategy = number("chexpstr");
             for row in rows {
                 seen[row[row_at::NAME] as usize] = true;
+                let last_part = &mut last_parts[row[row_at::NAME] as usize];
+                *last_part = row[row_at::PART].max(*last_part);
                 match row[row_at::NAME] {
                     n if n == size => frmsizecod = row[row_at::VALUE],
                     n if n == begin => cplbegf = row[row_at::VALUE],
@@ -107,6 +125,8 @@ pub fn reached(case: &Case<'_>) -> Vec<Goal> {
             }
             let names = (1..=names::COUNT).filter(|&n| seen[n]);
             goals.extend(names.map(|n| (NAME, n as i32, 0)));
+            let parted = (0..).zip(last_parts).filter(|(_, last)| *last != NO_PART);
+            goals.extend(parted.map(|(n, last)| (LAST_PART, n, last)));
             goals.push((MODE, s.acmod.into(), s.lfeon.into()));
             goals.push((BSID, s.bsid.into(), 0));
             goals.push((SIZE, s.fscod.into(), frmsizecod));
@@ -248,6 +268,7 @@ pub fn required() -> Vec<Goal> {
     goals.extend((1..24).map(|s| (STRATEGY, s / 4, s % 4)));
     goals.extend((0..FEATURES.len() as i32).map(|f| (FEATURE, f, 0)));
     goals.extend((0..PLACES.len() as i32).map(|p| (PLACE, p, 0)));
+    goals.extend(last_parts().filter(|(_, n, last)| last + 1 == names::of(*n).part.most()));
     let row = ROW as i32;
     goals.extend((0..2 * row).map(|n| (LEFT_OVER, n / row, n % row)));
     goals
@@ -265,6 +286,7 @@ pub fn wished() -> Vec<Goal> {
     for (name, values) in VALUES {
         goals.extend((0..values).map(|v| (VALUE, number(name), v)));
     }
+    goals.extend(last_parts());
     let bsids = (9..32).map(|v| (5, v));
     let distances = (3..16).map(|v| (9, v));
     let others = [
@@ -300,6 +322,7 @@ pub fn say(goal: &Goal) -> String {
         SITE => format!("refusal {a} after {}", name(b)),
         SIX_IN => format!("{kind} {a} at {}", SORTS[b as usize]),
         VALUE => format!("{} {b}", name(a)),
+        LAST_PART => format!("part {b} of {} as the last", name(a)),
         FEATURE => FEATURES[a as usize].into(),
         PLACE => PLACES[a as usize].into(),
         REFUSAL | BSID | OUTSIDE | CORNER => format!("{kind} {a}"),
@@ -308,9 +331,14 @@ pub fn say(goal: &Goal) -> String {
     }
 }
 
-/// What docs/FORMAT.md asks to run and compare, by name; then each of the four flags missing in block 0, and refusal 6 at each sort of
-/// element, in block 0 and in block 5.
-pub fn by_name() -> [(&'static str, Goal); 15] {
+/// What docs/FORMAT.md asks to run and compare, by name; then each of the four flags missing in block 0, refusal 6 at each sort of
+/// element, in block 0 and in block 5, and the corner cases of parts.
+pub fn by_name() -> [(&'static str, Goal); 20] {
+    let corners = corners::all();
+    let corner = |name: &str| {
+        let at = corners.iter().position(|corner| corner.name == name);
+        (CORNER, at.expect("a corner case") as i32, 0)
+    };
     [
         ("chbwcod 60", (VALUE, number("chbwcod"), 60)),
         ("chbwcod 61", (JUDGED, 11, 61)),
@@ -327,6 +355,11 @@ pub fn by_name() -> [(&'static str, Goal); 15] {
         ("a field of block 5 past the frame", (SIX_IN, 5, 0)),
         ("block 5's skip field past the frame", (SIX_IN, 5, 1)),
         ("block 5's mantissas past the frame", (SIX_IN, 5, 2)),
+        ("18 bands of coordinates", corner("bands-eighteen")),
+        ("one band", corner("bands-one")),
+        ("D15 groups to the end", corner("groups-to-the-end")),
+        ("eight segments in every slot", corner("segments-eight")),
+        ("a room of 9 n + 8 numbers", corner("one-number-too-few")),
     ]
 }
 

@@ -5,7 +5,7 @@ use crate::names::{number, role_numbers};
 use crate::syntax::Field;
 
 /// The numbers of a row.
-pub const ROW: usize = 8;
+pub const ROW: usize = 9;
 
 /// Which number of a row is which.
 pub mod row_at {
@@ -17,10 +17,15 @@ pub mod row_at {
     pub const POS: usize = 5;
     pub const WIDTH: usize = 6;
     pub const VALUE: usize = 7;
+    /// The band, group or segment, from 0.
+    pub const PART: usize = 8;
 }
 
-/// A field as a row.
-pub fn row(field: &Field) -> [i32; ROW] {
+/// The part of a row that is none of several.
+pub const NO_PART: i32 = -1;
+
+/// A field as a row, with the part that it is: the original's fields do not tell it.
+pub fn row(field: &Field, part: i32) -> [i32; ROW] {
     let mut row = [0; ROW];
     row[row_at::NAME] = number(field.name);
     (row[row_at::ROLE], row[row_at::PROGRAMME]) = role_numbers(field.role);
@@ -29,6 +34,7 @@ pub fn row(field: &Field) -> [i32; ROW] {
     row[row_at::POS] = field.pos as i32;
     row[row_at::WIDTH] = field.width as i32;
     row[row_at::VALUE] = field.value as i32;
+    row[row_at::PART] = part;
     row
 }
 

@@ -54,5 +54,6 @@ pub mod list;
 pub mod listing;
 pub mod moving;
 pub mod names;
+pub mod parts;
 pub mod replay;
 pub mod rng;

@@ -5,7 +5,7 @@ use crate::layout::ROW;
 use std::fmt::Write;
 
 /// The listing program's room, in rows, and the most that it reads, in bytes.
-pub const ROWS: usize = 2048;
+pub const ROWS: usize = 1820;
 pub const BYTES: usize = 3840;
 
 /// The last line, without its line feed.

@@ -2,7 +2,7 @@
 //!
 //! docs/NAMES.md is printed from this table, and `agree` holds every row of every input against it.
 
-use crate::layout::row_at;
+use crate::layout::{row_at, NO_PART};
 use crate::syntax::Role;
 use std::collections::HashMap;
 use std::sync::OnceLock;
@@ -33,38 +33,58 @@ pub enum Index {
 }
 
 #[derive(Clone, Copy, PartialEq, Eq)]
-pub enum Part {
+pub enum Section {
     Syncinfo,
     Bsi,
     AlternateBsi,
     Audblk,
 }
 
+/// What a row's part counts, from 0.
+#[derive(Clone, Copy, PartialEq, Eq)]
+pub enum Part {
+    None,
+    /// A coupling band: sub-bands that cplbndstrc merges are one.
+    Band,
+    /// A group of exponents, of at most so many: D15 over the widest range. The absolute exponent before them is none.
+    Group(i32),
+    /// A segment of delta bit allocation.
+    Segment,
+}
+
 pub struct Name {
     pub text: &'static str,
     pub role: Role,
     pub width: Width,
-    pub part: Part,
+    pub section: Section,
     pub index: Index,
+    pub part: Part,
     /// Its value never steers the rest: an editor may write another one.
     pub free: bool,
 }
 
 const fn header(text: &'static str, bits: usize, free: bool) -> Name {
-    with_role(text, Role::Plain, bits, Part::Bsi, free)
+    with_role(text, Role::Plain, bits, Section::Bsi, free)
 }
 
 const fn alternate(text: &'static str, bits: usize, free: bool) -> Name {
-    with_role(text, Role::Plain, bits, Part::AlternateBsi, free)
+    with_role(text, Role::Plain, bits, Section::AlternateBsi, free)
 }
 
-const fn with_role(text: &'static str, role: Role, bits: usize, part: Part, free: bool) -> Name {
+const fn with_role(
+    text: &'static str,
+    role: Role,
+    bits: usize,
+    section: Section,
+    free: bool,
+) -> Name {
     Name {
         text,
         role,
         width: Width::Bits(bits),
-        part,
+        section,
         index: Index::None,
+        part: Part::None,
         free,
     }
 }
@@ -75,19 +95,28 @@ const fn block(text: &'static str, bits: usize, index: Index, free: bool) -> Nam
         text,
         role: Role::Plain,
         width,
-        part: Part::Audblk,
+        section: Section::Audblk,
         index,
+        part: Part::None,
         free,
     }
 }
 
-const fn span(text: &'static str, role: Role, width: &'static str, part: Part) -> Name {
+impl Name {
+    const fn counted(mut self, part: Part) -> Name {
+        self.part = part;
+        self
+    }
+}
+
+const fn span(text: &'static str, role: Role, width: &'static str, section: Section) -> Name {
     Name {
         text,
         role,
         width: Width::Span(width),
-        part,
+        section,
         index: Index::None,
+        part: Part::None,
         free: false,
     }
 }
@@ -95,10 +124,10 @@ const fn span(text: &'static str, role: Role, width: &'static str, part: Part) -
 /// The names in the order in which `parse` first reaches them.
 #[rustfmt::skip]
 pub const NAMES: [Name; COUNT] = [
-    with_role("syncword", Role::Sync, 16, Part::Syncinfo, false),
-    with_role("crc1", Role::Crc1, 16, Part::Syncinfo, true),
-    with_role("fscod", Role::FrameSize, 2, Part::Syncinfo, false),
-    with_role("frmsizecod", Role::FrameSize, 6, Part::Syncinfo, false),
+    with_role("syncword", Role::Sync, 16, Section::Syncinfo, false),
+    with_role("crc1", Role::Crc1, 16, Section::Syncinfo, true),
+    with_role("fscod", Role::FrameSize, 2, Section::Syncinfo, false),
+    with_role("frmsizecod", Role::FrameSize, 6, Section::Syncinfo, false),
     header("bsid", 5, false),
     header("bsmod", 3, true),
     header("acmod", 3, false),
@@ -106,17 +135,17 @@ pub const NAMES: [Name; COUNT] = [
     header("surmixlev", 2, true),
     header("dsurmod", 2, true),
     header("lfeon", 1, false),
-    with_role("dialnorm", Role::Dialnorm(0), 5, Part::Bsi, true),
-    with_role("compre", Role::ComprExists(0), 1, Part::Bsi, false),
-    with_role("compr", Role::Compr(0), 8, Part::Bsi, true),
+    with_role("dialnorm", Role::Dialnorm(0), 5, Section::Bsi, true),
+    with_role("compre", Role::ComprExists(0), 1, Section::Bsi, false),
+    with_role("compr", Role::Compr(0), 8, Section::Bsi, true),
     header("langcode", 1, false),
     header("langcod", 8, true),
     header("audprodie", 1, false),
     header("mixlevel", 5, true),
     header("roomtyp", 2, true),
-    with_role("dialnorm2", Role::Dialnorm(1), 5, Part::Bsi, true),
-    with_role("compr2e", Role::ComprExists(1), 1, Part::Bsi, false),
-    with_role("compr2", Role::Compr(1), 8, Part::Bsi, true),
+    with_role("dialnorm2", Role::Dialnorm(1), 5, Section::Bsi, true),
+    with_role("compr2e", Role::ComprExists(1), 1, Section::Bsi, false),
+    with_role("compr2", Role::Compr(1), 8, Section::Bsi, true),
     header("langcod2e", 1, false),
     header("langcod2", 8, true),
     header("audprodi2e", 1, false),
@@ -142,13 +171,13 @@ pub const NAMES: [Name; COUNT] = [
     header("timecod2", 14, true),
     header("addbsie", 1, false),
     header("addbsil", 6, false),
-    span("addbsi", Role::Addbsi, "8 x (addbsil + 1)", Part::Bsi),
+    span("addbsi", Role::Addbsi, "8 x (addbsil + 1)", Section::Bsi),
     block("blksw", 1, Index::Channel, true),
     block("dithflag", 1, Index::Channel, true),
-    with_role("dynrnge", Role::DynrngExists(0), 1, Part::Audblk, false),
-    with_role("dynrng", Role::Dynrng(0), 8, Part::Audblk, true),
-    with_role("dynrng2e", Role::DynrngExists(1), 1, Part::Audblk, false),
-    with_role("dynrng2", Role::Dynrng(1), 8, Part::Audblk, true),
+    with_role("dynrnge", Role::DynrngExists(0), 1, Section::Audblk, false),
+    with_role("dynrng", Role::Dynrng(0), 8, Section::Audblk, true),
+    with_role("dynrng2e", Role::DynrngExists(1), 1, Section::Audblk, false),
+    with_role("dynrng2", Role::Dynrng(1), 8, Section::Audblk, true),
     block("cplstre", 1, Index::None, false),
     block("cplinu", 1, Index::None, false),
     block("chincpl", 1, Index::Channel, false),
@@ -158,8 +187,8 @@ pub const NAMES: [Name; COUNT] = [
     block("cplbndstrc", 1, Index::SubBand, false),
     block("cplcoe", 1, Index::Channel, false),
     block("mstrcplco", 2, Index::Channel, true),
-    block("cplcoexp", 4, Index::Channel, true),
-    block("cplcomant", 4, Index::Channel, true),
+    block("cplcoexp", 4, Index::Channel, true).counted(Part::Band),
+    block("cplcomant", 4, Index::Channel, true).counted(Part::Band),
     block("phsflg", 1, Index::CouplingBand, true),
     block("rematstr", 1, Index::None, false),
     block("rematflg", 1, Index::RematrixingBand, true),
@@ -168,12 +197,12 @@ pub const NAMES: [Name; COUNT] = [
     block("lfeexpstr", 1, Index::None, false),
     block("chbwcod", 6, Index::Channel, false),
     block("cplabsexp", 4, Index::Zero, false),
-    block("cplexps", 7, Index::Zero, false),
+    block("cplexps", 7, Index::Zero, false).counted(Part::Group(72)),
     block("exps[ch][0]", 4, Index::Channel, false),
-    block("exps[ch]", 7, Index::Channel, false),
+    block("exps[ch]", 7, Index::Channel, false).counted(Part::Group(84)),
     block("gainrng", 2, Index::Channel, true),
     block("lfeexps[0]", 4, Index::Zero, false),
-    block("lfeexps", 7, Index::Zero, false),
+    block("lfeexps", 7, Index::Zero, false).counted(Part::Group(2)),
     block("baie", 1, Index::None, false),
     block("sdcycod", 2, Index::None, false),
     block("fdcycod", 2, Index::None, false),
@@ -195,17 +224,17 @@ pub const NAMES: [Name; COUNT] = [
     block("cpldeltbae", 2, Index::None, false),
     block("deltbae", 2, Index::Channel, false),
     block("cpldeltnseg", 3, Index::CouplingSlot, false),
-    block("cpldeltoffst", 5, Index::CouplingSlot, false),
-    block("cpldeltlen", 4, Index::CouplingSlot, false),
-    block("cpldeltba", 3, Index::CouplingSlot, false),
+    block("cpldeltoffst", 5, Index::CouplingSlot, false).counted(Part::Segment),
+    block("cpldeltlen", 4, Index::CouplingSlot, false).counted(Part::Segment),
+    block("cpldeltba", 3, Index::CouplingSlot, false).counted(Part::Segment),
     block("deltnseg", 3, Index::Channel, false),
-    block("deltoffst", 5, Index::Channel, false),
-    block("deltlen", 4, Index::Channel, false),
-    block("deltba", 3, Index::Channel, false),
-    with_role("skiple", Role::Skiple, 1, Part::Audblk, false),
-    with_role("skipl", Role::Skipl, 9, Part::Audblk, false),
-    span("skipfld", Role::Skipfld, "8 x skipl", Part::Audblk),
-    span("mantissas", Role::Mantissas, "as walked", Part::Audblk),
+    block("deltoffst", 5, Index::Channel, false).counted(Part::Segment),
+    block("deltlen", 4, Index::Channel, false).counted(Part::Segment),
+    block("deltba", 3, Index::Channel, false).counted(Part::Segment),
+    with_role("skiple", Role::Skiple, 1, Section::Audblk, false),
+    with_role("skipl", Role::Skipl, 9, Section::Audblk, false),
+    span("skipfld", Role::Skipfld, "8 x skipl", Section::Audblk),
+    span("mantissas", Role::Mantissas, "as walked", Section::Audblk),
 ];
 
 /// A name's number, 1 to 111.
@@ -262,10 +291,29 @@ impl Index {
     }
 }
 
+impl Part {
+    /// How many there can be.
+    pub fn most(self) -> i32 {
+        match self {
+            Part::None => 0,
+            Part::Band => 18,
+            Part::Group(most) => most,
+            Part::Segment => 8,
+        }
+    }
+
+    fn allows(self, part: i32) -> bool {
+        match self {
+            Part::None => part == NO_PART,
+            several => (0..several.most()).contains(&part),
+        }
+    }
+}
+
 /// True if a row is of the kind that its name has in the table.
 pub fn fits(row: &[i32]) -> bool {
     let name = of(row[row_at::NAME]);
-    let in_block = name.part == Part::Audblk;
+    let in_block = name.section == Section::Audblk;
     let width_and_value = match name.width {
         Width::Bits(bits) => {
             row[row_at::WIDTH] == bits as i32 && (0..1 << bits).contains(&row[row_at::VALUE])
@@ -279,14 +327,15 @@ pub fn fits(row: &[i32]) -> bool {
             row[row_at::BLOCK] == -1
         }
         && name.index.allows(row[row_at::INDEX])
+        && name.part.allows(row[row_at::PART])
         && width_and_value
 }
 
 /// The table of docs/NAMES.md.
 pub fn table() -> String {
     let mut out = String::from(
-        "| No. | Name | Role | Width | Stands in | Index | Programme | Span | Free |\n\
-         |---|---|---|---|---|---|---|---|---|\n",
+        "| No. | Name | Role | Width | Stands in | Index | Part | Programme | Span | Free |\n\
+         |---|---|---|---|---|---|---|---|---|---|\n",
     );
     for (n, name) in (1..).zip(&NAMES) {
         let (role, programme) = role_numbers(name.role);
@@ -298,11 +347,11 @@ pub fn table() -> String {
             Width::Bits(bits) => bits.to_string(),
             Width::Span(text) => text.into(),
         };
-        let part = match name.part {
-            Part::Syncinfo => "syncinfo, 4.3.1",
-            Part::Bsi => "bsi, 4.3.2",
-            Part::AlternateBsi => "bsi, D.1.2",
-            Part::Audblk => "audblk, 4.3.3",
+        let section = match name.section {
+            Section::Syncinfo => "syncinfo, 4.3.1",
+            Section::Bsi => "bsi, 4.3.2",
+            Section::AlternateBsi => "bsi, D.1.2",
+            Section::Audblk => "audblk, 4.3.3",
         };
         let index = match name.index {
             Index::None => "none",
@@ -312,6 +361,12 @@ pub fn table() -> String {
             Index::RematrixingBand => "rematrixing band",
             Index::Zero => "0",
             Index::CouplingSlot => "5 (slot)",
+        };
+        let part = match name.part {
+            Part::None => "none",
+            Part::Band => "band",
+            Part::Group(_) => "group",
+            Part::Segment => "segment",
         };
         let programme = if programme < 0 {
             "none".into()
@@ -326,7 +381,7 @@ pub fn table() -> String {
         let free = if name.free { "yes" } else { "" };
         let text = name.text;
         out += &format!(
-            "| {n} | {text} | {role} {role_text} | {width} | {part} | {index} | {programme} | {span} | {free} |\n"
+            "| {n} | {text} | {role} {role_text} | {width} | {section} | {index} | {part} | {programme} | {span} | {free} |\n"
         );
     }
     out

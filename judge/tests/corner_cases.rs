@@ -1,10 +1,11 @@
 //! The corner cases: each has the number that docs/FORMAT.md gives it, corners.txt is what the program
 //! prints, and every case that docs/DIFFERENCES.md shows is one of them, input and answer.
 
-use judge::agree::{Judge, Room};
+use judge::agree::Judge;
 use judge::blocks::{allocate_block, AllocState, ExpSet, SlotAlloc};
 use judge::corners::{all, text};
-use judge::layout::{row_at, ROW};
+use judge::layout::{row_at, NO_PART, ROW};
+use judge::names::number;
 use std::collections::BTreeSet;
 use std::fs;
 use std::path::Path;
@@ -19,11 +20,7 @@ fn each_has_its_number() {
     let mut judge = Judge::default();
     let mut names = BTreeSet::new();
     for corner in all() {
-        let room = match corner.rows {
-            Some(rows) => Room::Numbers(ROW * rows),
-            None => Room::Sufficient { left_over: 0 },
-        };
-        let call = judge.call(&corner.capture, corner.place, room);
+        let call = judge.call(&corner.capture, corner.place, corner.room());
         assert_eq!(call.answer.number(), corner.number, "{}", corner.name);
         assert_eq!(call.answer.unfit(), corner.unfit, "{}", corner.name);
         assert!(names.insert(corner.name), "{} stands twice", corner.name);
@@ -133,6 +130,67 @@ fn coordinates_sent_is_of_the_first_coupled_block() {
         sent("coordinates-through-pause"),
         "nor is the one after a pause"
     );
+}
+
+#[test]
+fn as_many_parts_as_there_can_be_and_as_few() {
+    let corners = all();
+    let rows = |case: &str| {
+        let corner = corners.iter().find(|c| c.name == case).expect(case);
+        Judge::default().ample(&corner.capture, 0).rows
+    };
+    let [eighteen, one] = ["bands-eighteen", "bands-one"].map(rows);
+    let [to_the_end, eight] = ["groups-to-the-end", "segments-eight"].map(rows);
+    // Part and value of the rows of a name and index.
+    let parts = |rows: &[i32], name: &str, index: i32| -> Vec<(i32, i32)> {
+        rows.chunks(ROW)
+            .filter(|r| (r[row_at::NAME], r[row_at::INDEX]) == (number(name), index))
+            .map(|r| (r[row_at::PART], r[row_at::VALUE]))
+            .collect()
+    };
+    let bands: Vec<(i32, i32)> = (0..18).map(|band| (band, band % 16)).collect();
+    for name in ["cplcoexp", "cplcomant"] {
+        for channel in 0..2 {
+            assert_eq!(parts(&eighteen, name, channel), bands);
+            assert_eq!(parts(&one, name, channel), [(0, 0)]);
+        }
+    }
+    for (name, index, groups) in [
+        ("cplexps", 0, 72),
+        ("exps[ch]", 0, 12),
+        ("exps[ch]", 1, 12),
+        ("exps[ch]", 2, 84),
+        ("lfeexps", 0, 2),
+    ] {
+        let groups: Vec<(i32, i32)> = (0..groups).map(|group| (group, 62)).collect();
+        assert_eq!(parts(&to_the_end, name, index), groups, "{name}");
+    }
+    for (name, index) in [("cplabsexp", 0), ("exps[ch][0]", 2), ("lfeexps[0]", 0)] {
+        assert_eq!(parts(&to_the_end, name, index), [(NO_PART, 0)]);
+    }
+    let segments: Vec<(i32, i32)> = (0..8).map(|segment| (segment, segment)).collect();
+    for name in ["cpldeltoffst", "cpldeltlen", "cpldeltba"] {
+        assert_eq!(parts(&eight, name, 5), segments, "{name}");
+    }
+    for name in ["deltoffst", "deltlen", "deltba"] {
+        for channel in 0..5 {
+            assert_eq!(parts(&eight, name, channel), segments, "{name}");
+        }
+    }
+}
+
+/// Of nine numbers to a row: 9 n + 8 hold n rows, and the eight left over are not touched (`Judge::call` sees to it).
+#[test]
+fn eight_numbers_left_over_are_no_row() {
+    let corner = all()
+        .into_iter()
+        .find(|c| c.name == "one-number-too-few")
+        .expect("listed");
+    let call = Judge::default().call(&corner.capture, 0, corner.room());
+    let rows = call.ample.answer.rows;
+    assert_eq!(call.room.len(), 9 * rows - 1);
+    assert_eq!(call.room.len() % 9, 8);
+    assert_eq!((call.answer.number(), call.answer.rows), (7, rows - 1));
 }
 
 /// Pointers of the case's blocks 0 and 1, whose mantissas are all ones: 17 groups of pointers 1, then 8 groups

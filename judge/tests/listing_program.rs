@@ -23,10 +23,10 @@ fn listing(arguments: &[&str], input: &[u8]) -> String {
 
 #[test]
 fn the_example_byte_for_byte() {
-    let expected = "1 1 -1 -1 -1 0 16 2935\n\
-                    2 2 -1 -1 -1 16 16 0\n\
-                    3 5 -1 -1 -1 32 2 3\n\
-                    4 5 -1 -1 -1 34 6 0\n\
+    let expected = "1 1 -1 -1 -1 0 16 2935 -1\n\
+                    2 2 -1 -1 -1 16 16 0 -1\n\
+                    3 5 -1 -1 -1 32 2 3 -1\n\
+                    4 5 -1 -1 -1 34 6 0 -1\n\
                     refused 3 4 40 0 -1\n";
     assert_eq!(
         listing(&[], &[0x0B, 0x77, 0x00, 0x00, 0xC0, 0x00]),
@@ -46,7 +46,10 @@ fn an_accepted_frame() {
     let lines: Vec<&str> = text.lines().collect();
     assert_eq!(lines.len(), 96);
     assert_eq!(lines[95], "audio 95 128 204");
-    assert_eq!(lines[94], "111 15 -1 5 -1 204 0 0");
+    // The last of the exponent's groups: the channel ends at bin 73, D45.
+    let groups = lines.iter().filter(|line| line.starts_with("76 "));
+    assert_eq!(groups.last(), Some(&"76 0 -1 0 0 117 7 62 5"));
+    assert_eq!(lines[94], "111 15 -1 5 -1 204 0 0 -1");
     assert!(text.ends_with('\n'));
 }
 

@@ -1,6 +1,8 @@
 //! The names 1 to 111: their order is that of the published text, and docs/NAMES.md holds the table.
 
-use judge::names::{fits, number, table, COUNT, NAMES};
+use judge::layout::{row_at, NO_PART};
+use judge::names::{fits, number, table, Part, COUNT, NAMES};
+use judge::parts::PARTED;
 use std::path::Path;
 
 /// The texts between quotes in a line.
@@ -130,11 +132,45 @@ fn free_names_are_request_e6s() {
 
 #[test]
 fn a_row_of_another_kind_does_not_fit() {
-    let row = [12, 6, 0, -1, -1, 60, 5, 27];
+    let row = [12, 6, 0, -1, -1, 60, 5, 27, -1];
     assert!(fits(&row));
-    for (at, other) in [(1, 0), (2, 1), (3, 0), (4, 0), (6, 4), (7, 32)] {
+    for (at, other) in [(1, 0), (2, 1), (3, 0), (4, 0), (6, 4), (7, 32), (8, 0)] {
         let mut changed = row;
         changed[at] = other;
         assert!(!fits(&changed), "number {at}");
+    }
+}
+
+/// Request E4's names have a band, a group or a segment, and no other does.
+#[test]
+fn parts_are_request_e4s() {
+    let of = |part: fn(Part) -> bool| -> Vec<&str> {
+        let names = NAMES.iter().filter(|name| part(name.part));
+        names.map(|name| name.text).collect()
+    };
+    assert_eq!(of(|p| p == Part::Band), ["cplcoexp", "cplcomant"]);
+    let groups = of(|p| matches!(p, Part::Group(_)));
+    assert_eq!(groups, ["cplexps", "exps[ch]", "lfeexps"]);
+    let segments = of(|p| p == Part::Segment);
+    let of_coupling = ["cpldeltoffst", "cpldeltlen", "cpldeltba"];
+    let of_channels = ["deltoffst", "deltlen", "deltba"];
+    assert_eq!(segments, [of_coupling, of_channels].concat());
+    let parted: Vec<&str> = PARTED.iter().map(|(name, ..)| *name).collect();
+    assert_eq!(of(|p| p != Part::None), parted);
+}
+
+#[test]
+fn a_part_too_many_does_not_fit() {
+    for (name, most) in [("cplcoexp", 18), ("exps[ch]", 84), ("deltba", 8)] {
+        let width = match name {
+            "cplcoexp" => 4,
+            "exps[ch]" => 7,
+            _ => 3,
+        };
+        let mut row = [number(name), 0, -1, 0, 0, 500, width, 0, 0];
+        for (part, allowed) in [(0, true), (most - 1, true), (most, false), (NO_PART, false)] {
+            row[row_at::PART] = part;
+            assert_eq!(fits(&row), allowed, "{name} {part}");
+        }
     }
 }

@@ -112,7 +112,9 @@ fn binary_list_has_every_corner_case() {
             let Room::Numbers(numbers) = case.room else {
                 return false;
             };
-            let rows = corner.rows.is_none_or(|rows| rows == numbers / ROW);
+            let rows = corner
+                .rows
+                .is_none_or(|rows| numbers == ROW * rows + corner.left_over);
             case.capture == corner.capture && case.place == corner.place && rows
         });
         assert!(found, "{}", corner.name);

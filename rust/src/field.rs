@@ -3,7 +3,7 @@
 //! What turns a row into a field is always inlined, here and in names.rs: a dense frame has thousands, and their loop is most of what this
 //! crate costs.
 
-use crate::layout::{row_at, Row, ROW_NUMBERS};
+use crate::layout::{row_at, Row, NO_PART, ROW_NUMBERS};
 use crate::names::{known, name_of, role_of};
 use crate::Role;
 use std::iter::FusedIterator;
@@ -27,10 +27,13 @@ pub struct Field {
     pub width: usize,
     /// The bits as a number; 0 for spans.
     pub value: u32,
+    /// Which of several of its name, block and index it is, from 0: the coupling band of `cplcoexp` and `cplcomant`, the group of `cplexps`,
+    /// `exps[ch]` and `lfeexps`, the segment of a delta offset, length or ba (coupling's too). Other elements have none.
+    pub part: Option<u8>,
 }
 
 impl Field {
-    /// An element that the caller reads itself, such as those of the tail, in the order of the parts above.
+    /// An element that the caller reads itself, such as those of the tail, from the values above in their order. It has no part.
     pub fn new(
         name: &'static str,
         role: Role,
@@ -48,6 +51,7 @@ impl Field {
             pos,
             width,
             value,
+            part: None,
         }
     }
 
@@ -102,6 +106,15 @@ fn role(row: &Row) -> Role {
     role_of(row[row_at::ROLE], row[row_at::PROGRAMME])
 }
 
+/// A row's part.
+#[inline(always)]
+fn part(row: &Row) -> Option<u8> {
+    match row[row_at::PART] {
+        NO_PART => None,
+        part => Some(known(part)),
+    }
+}
+
 /// A row as a field.
 #[inline(always)]
 fn of(row: &[i32]) -> Field {
@@ -114,6 +127,7 @@ fn of(row: &[i32]) -> Field {
         pos: known(row[row_at::POSITION]),
         width: known(row[row_at::WIDTH]),
         value: known(row[row_at::VALUE]),
+        part: part(row),
     }
 }
 

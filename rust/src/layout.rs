@@ -2,7 +2,7 @@
 //! crate says it; compare/ and the tests take it from here, and tests/documents.rs holds c/ferrysprig.h to it.
 
 /// The numbers of a row: a room of this many numbers holds one.
-pub const ROW_NUMBERS: usize = 8;
+pub const ROW_NUMBERS: usize = 9;
 
 /// Which number of a row is which.
 pub mod row_at {
@@ -14,7 +14,12 @@ pub mod row_at {
     pub const POSITION: usize = 5;
     pub const WIDTH: usize = 6;
     pub const VALUE: usize = 7;
+    /// Which band, group or segment, from 0.
+    pub const PART: usize = 8;
 }
+
+/// The part of a row whose name has none.
+pub const NO_PART: i32 = -1;
 
 pub type Row = [i32; ROW_NUMBERS];
 

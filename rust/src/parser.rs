@@ -54,7 +54,7 @@ pub fn parse_into<'a>(
     }
 }
 
-/// Room for the rows of any frame (some 130,000 bytes), kept from one frame to the next. Only a refusal allocates: it owns its rows.
+/// Room for the rows of any frame (some 146,000 bytes), kept from one frame to the next. Only a refusal allocates: it owns its rows.
 #[derive(Clone)]
 pub struct Parser {
     room: Box<[i32]>,

@@ -106,6 +106,7 @@ fn places_are_those_of_the_header() {
         ("POSITION", row_at::POSITION),
         ("WIDTH", row_at::WIDTH),
         ("VALUE", row_at::VALUE),
+        ("PART", row_at::PART),
     ];
     let answer = [
         ("REFUSAL", answer_at::REFUSAL),

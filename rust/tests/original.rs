@@ -1,8 +1,11 @@
-//! Beside the original Rust, on an encoder's frames: the same fields as far as the end of the audio, and the same summary.
+//! Beside the original Rust, on an encoder's frames: the same fields as far as the end of the audio, and the same summary. (The original's
+//! fields have no part: that is the judge's.)
 
 mod files;
 
 use ferrysprig::Role;
+use judge::agree::Judge;
+use judge::layout::{row_at, NO_PART, ROW};
 use judge::{ac3, syntax};
 
 /// A role of the crate's as the original's.
@@ -46,7 +49,7 @@ fn field(f: &ferrysprig::Field) -> syntax::Field {
 
 #[test]
 fn fields_and_summary_are_the_originals() {
-    let mut accepted = 0;
+    let (mut judge, mut accepted) = (Judge::default(), 0);
     for (name, stream) in files::frames() {
         let mut place = 0;
         while place < stream.len() {
@@ -62,6 +65,13 @@ fn fields_and_summary_are_the_originals() {
             let original = ac3::parse(data).unwrap();
             let ours: Vec<_> = frame.fields.iter().map(field).collect();
             assert_eq!(ours, original.fields[..ours.len()], "{name}, byte {place}");
+            let rows = judge.ample(&stream, place).rows;
+            let parts = frame
+                .fields
+                .iter()
+                .map(|f| f.part.map_or(NO_PART, i32::from));
+            let judged = rows.chunks(ROW).map(|row| row[row_at::PART]);
+            assert!(parts.eq(judged), "{name}, byte {place}");
             assert_eq!(summary.bytes, original.bytes);
             assert_eq!(summary.audio_end, original.audio_end);
             assert_eq!(summary.bsid, original.bsid);

@@ -3,8 +3,8 @@
 mod files;
 
 use ferrysprig::{
-    parse, parse_at, parse_into, Field, Parser, Refusal, Role, MOST_BYTES, MOST_ROWS, REFUSALS,
-    ROW_NUMBERS,
+    parse, parse_at, parse_into, Field, Frame, Parser, Refusal, Role, MOST_BYTES, MOST_ROWS,
+    REFUSALS, ROW_NUMBERS,
 };
 use std::cell::RefCell;
 use std::sync::mpsc::{channel, Sender};
@@ -40,8 +40,8 @@ fn the_example() {
     assert_eq!(refusal.unfit, None);
 }
 
-/// How a frame of judge/corners.txt is refused.
-fn corner(name: &str) -> Refusal {
+/// A frame of judge/corners.txt.
+fn corner_frame(name: &str) -> Vec<u8> {
     let list = files::text("judge/corners.txt");
     let (_, entry) = list.split_once(&format!("\n{name}: ")).expect(name);
     let input = entry.lines().nth(1).unwrap();
@@ -49,7 +49,12 @@ fn corner(name: &str) -> Refusal {
     let digits = digits.trim_end_matches(" and zeros");
     let mut frame = judge::hex::bytes(digits);
     frame.resize(length.strip_suffix(" bytes)").unwrap().parse().unwrap(), 0);
-    parse(&frame).unwrap_err()
+    frame
+}
+
+/// How it is refused.
+fn corner(name: &str) -> Refusal {
+    parse(&corner_frame(name)).unwrap_err()
 }
 
 #[test]
@@ -86,6 +91,44 @@ fn what_did_not_fit_is_told() {
             .to_string()
             .ends_with(&format!(" ({name} in block {block})")));
     }
+}
+
+/// Part and value of the elements of a name and index.
+fn parts(frame: &Frame, name: &str, index: i16) -> Vec<(Option<u8>, u32)> {
+    let named = frame.fields.iter().filter(|f| f.name == name);
+    let indexed = named.filter(|f| f.index == index);
+    indexed.map(|f| (f.part, f.value)).collect()
+}
+
+#[test]
+fn bands_groups_and_segments_are_told() {
+    let accepted = |name: &str| parse(&corner_frame(name)).unwrap();
+    let bands = accepted("bands-eighteen");
+    let eighteen: Vec<_> = (0..18).map(|n: u8| (Some(n), u32::from(n) % 16)).collect();
+    for (name, channel) in [("cplcoexp", 0), ("cplcomant", 0), ("cplcoexp", 1)] {
+        assert_eq!(parts(&bands, name, channel), eighteen);
+    }
+    assert_eq!(parts(&bands, "mstrcplco", 1), [(None, 0)]);
+    assert_eq!(
+        parts(&accepted("bands-one"), "cplcomant", 1),
+        [(Some(0), 0)]
+    );
+    let groups = accepted("groups-to-the-end");
+    for (name, index, count) in [("cplexps", 0, 72), ("exps[ch]", 2, 84), ("lfeexps", 0, 2)] {
+        let counted: Vec<_> = (0..count).map(|n| (Some(n), 62)).collect();
+        assert_eq!(parts(&groups, name, index), counted);
+    }
+    assert_eq!(parts(&groups, "exps[ch][0]", 2), [(None, 0)]);
+    let segments = accepted("segments-eight");
+    let eight: Vec<_> = (0..8).map(|n: u8| (Some(n), u32::from(n))).collect();
+    for (name, index) in [("cpldeltba", 5), ("deltoffst", 0), ("deltlen", 4)] {
+        assert_eq!(parts(&segments, name, index), eight);
+    }
+}
+
+#[test]
+fn an_element_of_the_callers_has_no_part() {
+    assert_eq!(first_fields()[0].part, None);
 }
 
 #[test]

@@ -24,10 +24,10 @@ none = negsuc 0
 -- name, role, programme, block, index, position, width, value
 abbrev four-rows : List ℤ
 four-rows =
-    (pos 1 ∷ pos 1 ∷ none ∷ none ∷ none ∷ pos 0 ∷ pos 16 ∷ pos 2935 ∷ [])
-    ++ (pos 2 ∷ pos 2 ∷ none ∷ none ∷ none ∷ pos 16 ∷ pos 16 ∷ pos 0 ∷ [])
-    ++ (pos 3 ∷ pos 5 ∷ none ∷ none ∷ none ∷ pos 32 ∷ pos 2 ∷ pos 3 ∷ [])
-    ++ (pos 4 ∷ pos 5 ∷ none ∷ none ∷ none ∷ pos 34 ∷ pos 6 ∷ pos 0 ∷ [])
+    (pos 1 ∷ pos 1 ∷ none ∷ none ∷ none ∷ pos 0 ∷ pos 16 ∷ pos 2935 ∷ none ∷ [])
+    ++ (pos 2 ∷ pos 2 ∷ none ∷ none ∷ none ∷ pos 16 ∷ pos 16 ∷ pos 0 ∷ none ∷ [])
+    ++ (pos 3 ∷ pos 5 ∷ none ∷ none ∷ none ∷ pos 32 ∷ pos 2 ∷ pos 3 ∷ none ∷ [])
+    ++ (pos 4 ∷ pos 5 ∷ none ∷ none ∷ none ∷ pos 34 ∷ pos 6 ∷ pos 0 ∷ none ∷ [])
 
 listed : let r = parse syncframe frame 2048 in (flatten (r .rows) ≡ four-rows) × (r .end ≡ refused noFrameSize) × (r .spot .at ≡ 40)
 unfolding syncframe header syncinfo _>>=_ run unless roomCheck check flatten shown value bitAt frameBytes

@@ -2,12 +2,14 @@ pub mod Demand3
 pub mod Values
 pub mod Marked
 pub mod AtMost
+pub mod Counts
 pub mod RowBound
 pub mod Within
 pub mod Editing
 pub mod Promise
 pub mod Unfitting
 pub mod Rooms
+pub mod Parts
 pub mod MoreRoom
 pub mod Useless
 pub mod Coordinates

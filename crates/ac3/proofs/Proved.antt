@@ -11,6 +11,7 @@ use Rattle.ac3.proofs.Editing.{edit-freely}
 use Rattle.ac3.proofs.Later.{later-bytes}
 use Rattle.ac3.proofs.MoreRoom.{more-room}
 use Rattle.ac3.proofs.OneAnswer.{any-two}
+use Rattle.ac3.proofs.Parts.{parts-of-rows, parts-of-rooms}
 use Rattle.ac3.proofs.Promise.{promised, reaches, answers-demand3}
 use Rattle.ac3.proofs.Rooms.{spans-by-role, rooms-demand3}
 use Rattle.ac3.proofs.RowBound.{row-bound}
@@ -36,6 +37,8 @@ proved =
       only-what-was-read = only-what-was-read syncframe;
       coordinates-idle = coordinates-idle;
       header-and-blocks = header-and-blocks;
+      parts = parts-of-rooms;
+      parts-listed = parts-of-rows;
       row-bound = row-bound;
       more-room = more-room;
       none-useless = none-useless;

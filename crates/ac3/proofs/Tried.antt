@@ -170,6 +170,33 @@ deltas-stay =
     ++ bytes 64 0x00000000000000000000000000000000000000000000000000000000000000000000000011f8fc000efbdb601007182e1f000ddd8f82c4b0e12567256476539a
     ++ bytes 10 0xed8fa6e501108a8510a3
 
+-- coordinates of 18 bands
+abbrev bands-eighteen : List ℕ
+bands-eighteen =
+    bytes 64 0x0b7700000040400000f078000200089119a22ab33bc44cd55de66ef77f8008c00112233445566778899aabbccddeeff00119f83e7cf9f3e7cf9f3e7cf9f3e7cf
+    ++ bytes 64 0x9f3e7c0f9f3e01f3e7c4004000000000000000000000000000000000000000000000000000000000000000000000000000000000000000000000000000000000
+
+-- coordinates of one band, merged of 18 sub-bands
+abbrev bands-one : List ℕ
+bands-one =
+    bytes 64 0x0b7700000040400000f07ffffe004009f83e7cf9f3e7cf9f3e7cf9f3e7cf9f3e7c0f9f3e01f3e7c4004000000000000000000000000000000000000000000000
+    ++ bytes 64 0x00000000000000000000000000000000000000000000000000000000000000000000000000000000000000000000000000000000000000000000000000000000
+
+-- D15 up to bin 253 for coupling and for a channel, with LFE
+abbrev groups-to-the-end : List ℕ
+groups-to-the-end =
+    bytes 64 0x0b77000008406400003c1e0000157e03e7cf9f3e7cf9f3e7cf9f3e7cf9f3e7cf9f3e7cf9f3e7cf9f3e7cf9f3e7cf9f3e7cf9f3e7cf9f3e7cf9f3e7cf9f3e7cf9
+    ++ bytes 64 0xf3e7cf9f3e7cf9f3e7cf9f3e7cf9f03e7cf9f3e7cf9f3e7cf9f00f9f3e7cf9f3e7cf9f3e7c03e7cf9f3e7cf9f3e7cf9f3e7cf9f3e7cf9f3e7cf9f3e7cf9f3e7c
+    ++ bytes 64 0xf9f3e7cf9f3e7cf9f3e7cf9f3e7cf9f3e7cf9f3e7cf9f3e7cf9f3e7cf9f3e7cf9f3e7cf9f3e7cf9f3e7cf9f3e7cf9f00f9f40040000000000000000000000000
+    ++ bytes 64 0x00000000000000000000000000000000000000000000000000000000000000000000000000000000000000000000000000000000000000000000000000000000
+
+-- eight delta segments for coupling and for each of five channels
+abbrev segments-eight : List ℕ
+segments-eight =
+    bytes 64 0x0b7700000440e0000000fe400fff07c0f9f3e7cf807cf9f3e7c03e7cf9f3e01f3e7cf9f00f9f3e7cf88008000000000002aabc00022444866c890ab4cd8eff80
+    ++ bytes 64 0x00448890cd91215699b1dff00008911219b2242ad3363bfe00011222433644855a66c77fc00022444866c890ab4cd8eff8000448890cd91215699b1df8000000
+    ++ bytes 64 0x00000000000000000000000000000000000000000000000000000000000000000000000000000000000000000000000000000000000000000000000000000000
+
 -- the example of docs/FORMAT.md
 abbrev fscod-3 : List ℕ
 fscod-3 =
@@ -360,62 +387,66 @@ refusal-23 =
     ++ bytes 64 0x016779ae23db0f771b3cd725400e3e4db2360f3100001ee000010330eedf89d78a9e45140ecd70591396925f1d0c70f02e66600a00cc237b073d0af5ca815a5b
 
 accepted :
-    (listing 2048 stereo ≡ 211 ∷ 1254 ∷ 1766583025364128360 ∷ 0 ∷ 160 ∷ 8 ∷ 2 ∷ 0 ∷ 0 ∷ 6 ∷ 67 ∷ 513 ∷ 688 ∷ 817 ∷ 946 ∷ 1100 ∷ 404 ∷ 579 ∷ 708 ∷ 837 ∷ 991 ∷ 1145 ∷ 1 ∷ [])
-    × (listing 2048 mono ≡ 133 ∷ 2174 ∷ 1062008089163349296 ∷ 0 ∷ 278 ∷ 8 ∷ 1 ∷ 0 ∷ 1 ∷ 0 ∷ 65 ∷ 704 ∷ 998 ∷ 1292 ∷ 1586 ∷ 1880 ∷ 420 ∷ 714 ∷ 1008 ∷ 1302 ∷ 1596 ∷ 1890 ∷ 1 ∷ [])
-    × (listing 2048 two-programmes ≡ 327 ∷ 1530 ∷ 2274860277479908915 ∷ 0 ∷ 192 ∷ 6 ∷ 0 ∷ 1 ∷ 2 ∷ 6 ∷ 73 ∷ 754 ∷ 859 ∷ 1175 ∷ 1257 ∷ 1328 ∷ 711 ∷ 830 ∷ 1151 ∷ 1233 ∷ 1304 ∷ 1506 ∷ 0 ∷ [])
-    × (listing 2048 eight-segments ≡ 236 ∷ 605 ∷ 70318218597138012 ∷ 0 ∷ 128 ∷ 6 ∷ 0 ∷ 1 ∷ 0 ∷ 6 ∷ 73 ∷ 327 ∷ 364 ∷ 395 ∷ 426 ∷ 568 ∷ 327 ∷ 364 ∷ 395 ∷ 426 ∷ 568 ∷ 605 ∷ 0 ∷ [])
-    × (listing 2048 surround ≡ 364 ∷ 1395 ∷ 1348723599992762923 ∷ 0 ∷ 384 ∷ 8 ∷ 7 ∷ 1 ∷ 0 ∷ 0 ∷ 150 ∷ 554 ∷ 668 ∷ 893 ∷ 992 ∷ 1251 ∷ 554 ∷ 668 ∷ 893 ∷ 992 ∷ 1251 ∷ 1395 ∷ 1 ∷ [])
-    × (listing 2048 coupled-surround ≡ 353 ∷ 1272 ∷ 2141540170222237398 ∷ 0 ∷ 160 ∷ 8 ∷ 4 ∷ 1 ∷ 0 ∷ 6 ∷ 132 ∷ 665 ∷ 870 ∷ 943 ∷ 1112 ∷ 1205 ∷ 665 ∷ 870 ∷ 943 ∷ 1112 ∷ 1205 ∷ 1272 ∷ 0 ∷ [])
-    × (listing 2048 three-front ≡ 230 ∷ 1089 ∷ 1505871635078138061 ∷ 0 ∷ 192 ∷ 8 ∷ 3 ∷ 0 ∷ 2 ∷ 6 ∷ 81 ∷ 511 ∷ 625 ∷ 739 ∷ 855 ∷ 979 ∷ 438 ∷ 552 ∷ 666 ∷ 782 ∷ 906 ∷ 1016 ∷ 0 ∷ [])
-    × (listing 2048 one-surround ≡ 201 ∷ 788 ∷ 1982974951175991881 ∷ 0 ∷ 128 ∷ 6 ∷ 5 ∷ 0 ∷ 0 ∷ 0 ∷ 84 ∷ 495 ∷ 560 ∷ 617 ∷ 674 ∷ 731 ∷ 460 ∷ 525 ∷ 582 ∷ 639 ∷ 696 ∷ 753 ∷ 1 ∷ [])
-    × (listing 2048 two-surround ≡ 296 ∷ 979 ∷ 1564907012821007100 ∷ 0 ∷ 128 ∷ 8 ∷ 6 ∷ 1 ∷ 0 ∷ 6 ∷ 75 ∷ 539 ∷ 617 ∷ 695 ∷ 785 ∷ 875 ∷ 509 ∷ 587 ∷ 665 ∷ 755 ∷ 845 ∷ 949 ∷ 0 ∷ [])
-    × (listing 2048 some-coupled ≡ 252 ∷ 820 ∷ 2161313733691180710 ∷ 0 ∷ 128 ∷ 8 ∷ 2 ∷ 1 ∷ 0 ∷ 1 ∷ 96 ∷ 489 ∷ 632 ∷ 744 ∷ 760 ∷ 792 ∷ 489 ∷ 632 ∷ 744 ∷ 760 ∷ 792 ∷ 820 ∷ 1 ∷ [])
-    × (listing 2048 phase-flags ≡ 191 ∷ 431 ∷ 1419739273287334406 ∷ 0 ∷ 128 ∷ 4 ∷ 2 ∷ 0 ∷ 0 ∷ 6 ∷ 67 ∷ 279 ∷ 310 ∷ 341 ∷ 369 ∷ 400 ∷ 279 ∷ 310 ∷ 341 ∷ 369 ∷ 400 ∷ 431 ∷ 0 ∷ [])
-    × (listing 2048 pause ≡ 377 ∷ 2028 ∷ 318877698429439663 ∷ 0 ∷ 256 ∷ 6 ∷ 0 ∷ 1 ∷ 0 ∷ 3 ∷ 231 ∷ 590 ∷ 970 ∷ 1439 ∷ 1712 ∷ 1788 ∷ 485 ∷ 898 ∷ 1417 ∷ 1690 ∷ 1773 ∷ 2028 ∷ 0 ∷ [])
-    × (listing 2048 joining ≡ 314 ∷ 1018 ∷ 1052683547220502673 ∷ 0 ∷ 160 ∷ 6 ∷ 2 ∷ 1 ∷ 0 ∷ 2 ∷ 96 ∷ 288 ∷ 430 ∷ 483 ∷ 540 ∷ 774 ∷ 288 ∷ 430 ∷ 483 ∷ 540 ∷ 774 ∷ 1018 ∷ 0 ∷ [])
-    × (listing 2048 quiet-coupling ≡ 327 ∷ 1099 ∷ 1389820174442769877 ∷ 0 ∷ 140 ∷ 6 ∷ 2 ∷ 0 ∷ 1 ∷ 1 ∷ 67 ∷ 240 ∷ 334 ∷ 524 ∷ 620 ∷ 783 ∷ 240 ∷ 334 ∷ 524 ∷ 620 ∷ 783 ∷ 1099 ∷ 0 ∷ [])
-    × (listing 2048 zero-width ≡ 96 ∷ 211 ∷ 699772223050309434 ∷ 0 ∷ 128 ∷ 8 ∷ 1 ∷ 0 ∷ 0 ∷ 0 ∷ 65 ∷ 161 ∷ 171 ∷ 181 ∷ 191 ∷ 201 ∷ 161 ∷ 171 ∷ 181 ∷ 191 ∷ 201 ∷ 211 ∷ 1 ∷ [])
-    × (listing 2048 to-the-end ≡ 177 ∷ 1024 ∷ 1613014222269609595 ∷ 0 ∷ 128 ∷ 2 ∷ 1 ∷ 0 ∷ 0 ∷ 0 ∷ 100 ∷ 355 ∷ 590 ∷ 611 ∷ 631 ∷ 650 ∷ 329 ∷ 590 ∷ 611 ∷ 631 ∷ 650 ∷ 693 ∷ 1 ∷ [])
-    × (listing 2048 skip-nothing ≡ 98 ∷ 400 ∷ 1590399564233235475 ∷ 0 ∷ 128 ∷ 5 ∷ 1 ∷ 0 ∷ 0 ∷ 0 ∷ 65 ∷ 200 ∷ 240 ∷ 280 ∷ 320 ∷ 360 ∷ 170 ∷ 210 ∷ 250 ∷ 290 ∷ 330 ∷ 370 ∷ 1 ∷ [])
-    × (listing 2048 addbsi-longest ≡ 99 ∷ 730 ∷ 2088455680737369499 ∷ 0 ∷ 128 ∷ 6 ∷ 1 ∷ 0 ∷ 0 ∷ 0 ∷ 583 ∷ 679 ∷ 689 ∷ 699 ∷ 710 ∷ 720 ∷ 679 ∷ 689 ∷ 699 ∷ 710 ∷ 720 ∷ 730 ∷ 1 ∷ [])
-    × (listing 2048 widest ≡ 207 ∷ 1088 ∷ 137433663604931848 ∷ 0 ∷ 138 ∷ 5 ∷ 1 ∷ 0 ∷ 1 ∷ 0 ∷ 100 ∷ 269 ∷ 458 ∷ 545 ∷ 684 ∷ 1046 ∷ 269 ∷ 458 ∷ 545 ∷ 580 ∷ 1046 ∷ 1088 ∷ 1 ∷ [])
-    × (listing 2048 other-names-1 ≡ 563 ∷ 2776 ∷ 1825383984366266164 ∷ 0 ∷ 348 ∷ 6 ∷ 0 ∷ 0 ∷ 1 ∷ 6 ∷ 147 ∷ 1544 ∷ 1604 ∷ 1712 ∷ 1949 ∷ 2596 ∷ 1544 ∷ 1604 ∷ 1712 ∷ 1949 ∷ 2596 ∷ 2776 ∷ 0 ∷ [])
-    × (listing 2048 deltas-stay ≡ 150 ∷ 1098 ∷ 1199251214092976941 ∷ 0 ∷ 138 ∷ 8 ∷ 1 ∷ 0 ∷ 1 ∷ 0 ∷ 138 ∷ 817 ∷ 850 ∷ 892 ∷ 926 ∷ 1044 ∷ 802 ∷ 835 ∷ 877 ∷ 911 ∷ 1009 ∷ 1063 ∷ 1 ∷ [])
+    (listing 1820 stereo ≡ 211 ∷ 1254 ∷ 1687316358851013630 ∷ 0 ∷ 160 ∷ 8 ∷ 2 ∷ 0 ∷ 0 ∷ 6 ∷ 67 ∷ 513 ∷ 688 ∷ 817 ∷ 946 ∷ 1100 ∷ 404 ∷ 579 ∷ 708 ∷ 837 ∷ 991 ∷ 1145 ∷ 1 ∷ [])
+    × (listing 1820 mono ≡ 133 ∷ 2174 ∷ 1070593261574896366 ∷ 0 ∷ 278 ∷ 8 ∷ 1 ∷ 0 ∷ 1 ∷ 0 ∷ 65 ∷ 704 ∷ 998 ∷ 1292 ∷ 1586 ∷ 1880 ∷ 420 ∷ 714 ∷ 1008 ∷ 1302 ∷ 1596 ∷ 1890 ∷ 1 ∷ [])
+    × (listing 1820 two-programmes ≡ 327 ∷ 1530 ∷ 1679016584205727469 ∷ 0 ∷ 192 ∷ 6 ∷ 0 ∷ 1 ∷ 2 ∷ 6 ∷ 73 ∷ 754 ∷ 859 ∷ 1175 ∷ 1257 ∷ 1328 ∷ 711 ∷ 830 ∷ 1151 ∷ 1233 ∷ 1304 ∷ 1506 ∷ 0 ∷ [])
+    × (listing 1820 eight-segments ≡ 236 ∷ 605 ∷ 623095571539255108 ∷ 0 ∷ 128 ∷ 6 ∷ 0 ∷ 1 ∷ 0 ∷ 6 ∷ 73 ∷ 327 ∷ 364 ∷ 395 ∷ 426 ∷ 568 ∷ 327 ∷ 364 ∷ 395 ∷ 426 ∷ 568 ∷ 605 ∷ 0 ∷ [])
+    × (listing 1820 surround ≡ 364 ∷ 1395 ∷ 1368316862619759103 ∷ 0 ∷ 384 ∷ 8 ∷ 7 ∷ 1 ∷ 0 ∷ 0 ∷ 150 ∷ 554 ∷ 668 ∷ 893 ∷ 992 ∷ 1251 ∷ 554 ∷ 668 ∷ 893 ∷ 992 ∷ 1251 ∷ 1395 ∷ 1 ∷ [])
+    × (listing 1820 coupled-surround ≡ 353 ∷ 1272 ∷ 1773707119003245062 ∷ 0 ∷ 160 ∷ 8 ∷ 4 ∷ 1 ∷ 0 ∷ 6 ∷ 132 ∷ 665 ∷ 870 ∷ 943 ∷ 1112 ∷ 1205 ∷ 665 ∷ 870 ∷ 943 ∷ 1112 ∷ 1205 ∷ 1272 ∷ 0 ∷ [])
+    × (listing 1820 three-front ≡ 230 ∷ 1089 ∷ 1193157268220887521 ∷ 0 ∷ 192 ∷ 8 ∷ 3 ∷ 0 ∷ 2 ∷ 6 ∷ 81 ∷ 511 ∷ 625 ∷ 739 ∷ 855 ∷ 979 ∷ 438 ∷ 552 ∷ 666 ∷ 782 ∷ 906 ∷ 1016 ∷ 0 ∷ [])
+    × (listing 1820 one-surround ≡ 201 ∷ 788 ∷ 443495983195877646 ∷ 0 ∷ 128 ∷ 6 ∷ 5 ∷ 0 ∷ 0 ∷ 0 ∷ 84 ∷ 495 ∷ 560 ∷ 617 ∷ 674 ∷ 731 ∷ 460 ∷ 525 ∷ 582 ∷ 639 ∷ 696 ∷ 753 ∷ 1 ∷ [])
+    × (listing 1820 two-surround ≡ 296 ∷ 979 ∷ 1746701615328716398 ∷ 0 ∷ 128 ∷ 8 ∷ 6 ∷ 1 ∷ 0 ∷ 6 ∷ 75 ∷ 539 ∷ 617 ∷ 695 ∷ 785 ∷ 875 ∷ 509 ∷ 587 ∷ 665 ∷ 755 ∷ 845 ∷ 949 ∷ 0 ∷ [])
+    × (listing 1820 some-coupled ≡ 252 ∷ 820 ∷ 586386374867509809 ∷ 0 ∷ 128 ∷ 8 ∷ 2 ∷ 1 ∷ 0 ∷ 1 ∷ 96 ∷ 489 ∷ 632 ∷ 744 ∷ 760 ∷ 792 ∷ 489 ∷ 632 ∷ 744 ∷ 760 ∷ 792 ∷ 820 ∷ 1 ∷ [])
+    × (listing 1820 phase-flags ≡ 191 ∷ 431 ∷ 2074124762563544736 ∷ 0 ∷ 128 ∷ 4 ∷ 2 ∷ 0 ∷ 0 ∷ 6 ∷ 67 ∷ 279 ∷ 310 ∷ 341 ∷ 369 ∷ 400 ∷ 279 ∷ 310 ∷ 341 ∷ 369 ∷ 400 ∷ 431 ∷ 0 ∷ [])
+    × (listing 1820 pause ≡ 377 ∷ 2028 ∷ 1515393768675836011 ∷ 0 ∷ 256 ∷ 6 ∷ 0 ∷ 1 ∷ 0 ∷ 3 ∷ 231 ∷ 590 ∷ 970 ∷ 1439 ∷ 1712 ∷ 1788 ∷ 485 ∷ 898 ∷ 1417 ∷ 1690 ∷ 1773 ∷ 2028 ∷ 0 ∷ [])
+    × (listing 1820 joining ≡ 314 ∷ 1018 ∷ 1477599029914269909 ∷ 0 ∷ 160 ∷ 6 ∷ 2 ∷ 1 ∷ 0 ∷ 2 ∷ 96 ∷ 288 ∷ 430 ∷ 483 ∷ 540 ∷ 774 ∷ 288 ∷ 430 ∷ 483 ∷ 540 ∷ 774 ∷ 1018 ∷ 0 ∷ [])
+    × (listing 1820 quiet-coupling ≡ 327 ∷ 1099 ∷ 1001095495553235712 ∷ 0 ∷ 140 ∷ 6 ∷ 2 ∷ 0 ∷ 1 ∷ 1 ∷ 67 ∷ 240 ∷ 334 ∷ 524 ∷ 620 ∷ 783 ∷ 240 ∷ 334 ∷ 524 ∷ 620 ∷ 783 ∷ 1099 ∷ 0 ∷ [])
+    × (listing 1820 zero-width ≡ 96 ∷ 211 ∷ 2296638830452988407 ∷ 0 ∷ 128 ∷ 8 ∷ 1 ∷ 0 ∷ 0 ∷ 0 ∷ 65 ∷ 161 ∷ 171 ∷ 181 ∷ 191 ∷ 201 ∷ 161 ∷ 171 ∷ 181 ∷ 191 ∷ 201 ∷ 211 ∷ 1 ∷ [])
+    × (listing 1820 to-the-end ≡ 177 ∷ 1024 ∷ 1645789900954477477 ∷ 0 ∷ 128 ∷ 2 ∷ 1 ∷ 0 ∷ 0 ∷ 0 ∷ 100 ∷ 355 ∷ 590 ∷ 611 ∷ 631 ∷ 650 ∷ 329 ∷ 590 ∷ 611 ∷ 631 ∷ 650 ∷ 693 ∷ 1 ∷ [])
+    × (listing 1820 skip-nothing ≡ 98 ∷ 400 ∷ 70243059790895682 ∷ 0 ∷ 128 ∷ 5 ∷ 1 ∷ 0 ∷ 0 ∷ 0 ∷ 65 ∷ 200 ∷ 240 ∷ 280 ∷ 320 ∷ 360 ∷ 170 ∷ 210 ∷ 250 ∷ 290 ∷ 330 ∷ 370 ∷ 1 ∷ [])
+    × (listing 1820 addbsi-longest ≡ 99 ∷ 730 ∷ 1180059700245890026 ∷ 0 ∷ 128 ∷ 6 ∷ 1 ∷ 0 ∷ 0 ∷ 0 ∷ 583 ∷ 679 ∷ 689 ∷ 699 ∷ 710 ∷ 720 ∷ 679 ∷ 689 ∷ 699 ∷ 710 ∷ 720 ∷ 730 ∷ 1 ∷ [])
+    × (listing 1820 widest ≡ 207 ∷ 1088 ∷ 1253942583223131049 ∷ 0 ∷ 138 ∷ 5 ∷ 1 ∷ 0 ∷ 1 ∷ 0 ∷ 100 ∷ 269 ∷ 458 ∷ 545 ∷ 684 ∷ 1046 ∷ 269 ∷ 458 ∷ 545 ∷ 580 ∷ 1046 ∷ 1088 ∷ 1 ∷ [])
+    × (listing 1820 other-names-1 ≡ 563 ∷ 2776 ∷ 1967708164742970496 ∷ 0 ∷ 348 ∷ 6 ∷ 0 ∷ 0 ∷ 1 ∷ 6 ∷ 147 ∷ 1544 ∷ 1604 ∷ 1712 ∷ 1949 ∷ 2596 ∷ 1544 ∷ 1604 ∷ 1712 ∷ 1949 ∷ 2596 ∷ 2776 ∷ 0 ∷ [])
+    × (listing 1820 deltas-stay ≡ 150 ∷ 1098 ∷ 612091140150737585 ∷ 0 ∷ 138 ∷ 8 ∷ 1 ∷ 0 ∷ 1 ∷ 0 ∷ 138 ∷ 817 ∷ 850 ∷ 892 ∷ 926 ∷ 1044 ∷ 802 ∷ 835 ∷ 877 ∷ 911 ∷ 1009 ∷ 1063 ∷ 1 ∷ [])
+    × (listing 1820 bands-eighteen ≡ 266 ∷ 732 ∷ 1403960179331273181 ∷ 0 ∷ 128 ∷ 8 ∷ 2 ∷ 0 ∷ 0 ∷ 6 ∷ 67 ∷ 632 ∷ 652 ∷ 672 ∷ 692 ∷ 712 ∷ 632 ∷ 652 ∷ 672 ∷ 692 ∷ 712 ∷ 732 ∷ 1 ∷ [])
+    × (listing 1820 bands-one ≡ 198 ∷ 460 ∷ 1522623281577177158 ∷ 0 ∷ 128 ∷ 8 ∷ 2 ∷ 0 ∷ 0 ∷ 6 ∷ 67 ∷ 360 ∷ 380 ∷ 400 ∷ 420 ∷ 440 ∷ 360 ∷ 380 ∷ 400 ∷ 420 ∷ 440 ∷ 460 ∷ 1 ∷ [])
+    × (listing 1820 groups-to-the-end ≡ 374 ∷ 1598 ∷ 577431730805009659 ∷ 0 ∷ 256 ∷ 8 ∷ 3 ∷ 1 ∷ 0 ∷ 6 ∷ 67 ∷ 1478 ∷ 1502 ∷ 1526 ∷ 1550 ∷ 1574 ∷ 1478 ∷ 1502 ∷ 1526 ∷ 1550 ∷ 1574 ∷ 1598 ∷ 0 ∷ [])
+    × (listing 1820 segments-eight ≡ 412 ∷ 1168 ∷ 965782024263992707 ∷ 0 ∷ 192 ∷ 8 ∷ 7 ∷ 0 ∷ 0 ∷ 6 ∷ 69 ∷ 998 ∷ 1032 ∷ 1066 ∷ 1100 ∷ 1134 ∷ 998 ∷ 1032 ∷ 1066 ∷ 1100 ∷ 1134 ∷ 1168 ∷ 0 ∷ [])
 unfolding bitAt value bitsBefore sameBits rangeEq _>>=_ turns shown except exec andThen flatten landing finish roomCheck check sum unless run continue nfchans words48 words44 words32 frameBytes slowDecay fastDecay slowGain knee floor fastGain bandEnd logAdd hearing bap bapBits from placed snrOffset psdOf mappedPsd logadd bandSum bandOf startOf endOf bandPsd integratedPsd lowcomp lowAfter rises startLeak fallTo fallBy fallLeak leakStep excitations excitation overKnee maskOf maskingCurve deltaOf passed deltaIn deltaSum deltaApplied kept threshold thresholds addressOf bapOf Allocation-pointers allocation deltaCode channelCode segment newDeltas slotDeltas codedDeltas deltas newCurve curve fineOffset channelOffset newOffsets offsets newLeak couplingLeak step unpack group exponentSet slotExponents channelExponents exponents silent Mantissas-pointers allPointers widths mantissas channelParts parts syncinfo programmeInfo alternateInfo timeCodes additionalInfo bsi header howMany coupledChannels joined couplingBands newCoupling couplingStrategy coordinate channelCoordinates phaseFlags couplingCoordinates rematrixing channelStrategies exponentStrategies bandwidth bandwidths channelEnd channelEnds channelFlags dynamicRange channelSettings couplingSection exponentSection skipField allocState allSent audioBlock audio syncframe answered bytes plusOne checksum verdict short
-accepted = (refl, refl, refl, refl, refl, refl, refl, refl, refl, refl, refl, refl, refl, refl, refl, refl, refl, refl, refl, refl, refl)
+accepted = (refl, refl, refl, refl, refl, refl, refl, refl, refl, refl, refl, refl, refl, refl, refl, refl, refl, refl, refl, refl, refl, refl, refl, refl, refl)
 
 refused :
-    (listing 2048 fscod-3 ≡ 4 ∷ 40 ∷ 29579453722108996 ∷ 3 ∷ 0 ∷ 0 ∷ [])
-    × (listing 2048 refusal-1 ≡ 0 ∷ 0 ∷ 0 ∷ 1 ∷ 0 ∷ 0 ∷ [])
-    × (listing 2048 refusal-2 ≡ 1 ∷ 16 ∷ 352286885166436349 ∷ 2 ∷ 0 ∷ 0 ∷ [])
-    × (listing 2048 refusal-4 ≡ 4 ∷ 40 ∷ 40781722323852877 ∷ 4 ∷ 0 ∷ 0 ∷ [])
-    × (listing 2048 refusal-5 ≡ 5 ∷ 45 ∷ 1373352214628650087 ∷ 5 ∷ 0 ∷ 0 ∷ [])
-    × (listing 2048 refusal-6-skip ≡ 45 ∷ 163 ∷ 2287202142014331790 ∷ 6 ∷ 110 ∷ 1 ∷ [])
-    × (listing 2048 refusal-6-field ≡ 93 ∷ 1022 ∷ 1793998605553555400 ∷ 6 ∷ 76 ∷ 1 ∷ [])
-    × (listing 2048 refusal-6-block-5 ≡ 90 ∷ 1024 ∷ 2167868889333793135 ∷ 6 ∷ 49 ∷ 6 ∷ [])
-    × (listing 2048 refusal-6-skip-5 ≡ 95 ∷ 213 ∷ 2009555243386366642 ∷ 6 ∷ 110 ∷ 6 ∷ [])
-    × (listing 2048 refusal-6-walk-5 ≡ 97 ∷ 1017 ∷ 27516514050212150 ∷ 6 ∷ 111 ∷ 6 ∷ [])
-    × (listing 2048 refusal-6-walk ≡ 45 ∷ 1019 ∷ 772336669383944041 ∷ 6 ∷ 111 ∷ 1 ∷ [])
-    × (listing 2048 refusal-6-coupled ≡ 91 ∷ 1023 ∷ 406237143950309278 ∷ 6 ∷ 111 ∷ 1 ∷ [])
-    × (listing 2048 refusal-6-late ≡ 101 ∷ 1024 ∷ 2113091840523649115 ∷ 6 ∷ 109 ∷ 6 ∷ [])
-    × (listing 2048 refusal-6-late-walk ≡ 97 ∷ 1017 ∷ 27516514050212150 ∷ 6 ∷ 111 ∷ 6 ∷ [])
-    × (listing 210 stereo ≡ 210 ∷ 1254 ∷ 1819588965046830427 ∷ 7 ∷ 0 ∷ 0 ∷ [])
-    × (listing 3 fscod-3 ≡ 3 ∷ 34 ∷ 1747240727870654386 ∷ 7 ∷ 0 ∷ 0 ∷ [])
-    × (listing 2048 refusal-8 ≡ 21 ∷ 69 ∷ 1081658256954631330 ∷ 8 ∷ 0 ∷ 0 ∷ [])
-    × (listing 2048 refusal-9 ≡ 25 ∷ 79 ∷ 124803676312919335 ∷ 9 ∷ 0 ∷ 0 ∷ [])
-    × (listing 2048 refusal-10 ≡ 25 ∷ 79 ∷ 832235487675882048 ∷ 10 ∷ 0 ∷ 0 ∷ [])
-    × (listing 2048 refusal-11 ≡ 24 ∷ 78 ∷ 1425268850680990827 ∷ 11 ∷ 0 ∷ 0 ∷ [])
-    × (listing 2048 refusal-12 ≡ 23 ∷ 72 ∷ 1271932964578572975 ∷ 12 ∷ 0 ∷ 0 ∷ [])
-    × (listing 2048 refusal-13 ≡ 40 ∷ 101 ∷ 234763683109086067 ∷ 13 ∷ 0 ∷ 0 ∷ [])
-    × (listing 2048 refusal-14 ≡ 46 ∷ 120 ∷ 521513078694644625 ∷ 14 ∷ 0 ∷ 0 ∷ [])
-    × (listing 2048 refusal-15 ≡ 35 ∷ 141 ∷ 1600166967492640722 ∷ 15 ∷ 0 ∷ 0 ∷ [])
-    × (listing 2048 refusal-16 ≡ 26 ∷ 89 ∷ 1814820017003890421 ∷ 16 ∷ 0 ∷ 0 ∷ [])
-    × (listing 2048 refusal-17 ≡ 26 ∷ 89 ∷ 848520862932588235 ∷ 17 ∷ 0 ∷ 0 ∷ [])
-    × (listing 2048 refusal-18 ≡ 44 ∷ 155 ∷ 1939675474280980748 ∷ 18 ∷ 0 ∷ 0 ∷ [])
-    × (listing 2048 refusal-19 ≡ 44 ∷ 155 ∷ 1757649603618528351 ∷ 19 ∷ 0 ∷ 0 ∷ [])
-    × (listing 2048 refusal-20 ≡ 103 ∷ 398 ∷ 622370867021432412 ∷ 20 ∷ 0 ∷ 0 ∷ [])
-    × (listing 2048 refusal-21 ≡ 26 ∷ 75 ∷ 878359410002101658 ∷ 21 ∷ 0 ∷ 0 ∷ [])
-    × (listing 2048 refusal-22 ≡ 33 ∷ 127 ∷ 2175148581457006551 ∷ 22 ∷ 0 ∷ 0 ∷ [])
-    × (listing 2048 refusal-23 ≡ 40 ∷ 146 ∷ 220526504281723518 ∷ 23 ∷ 0 ∷ 0 ∷ [])
+    (listing 1820 fscod-3 ≡ 4 ∷ 40 ∷ 2008319515514683955 ∷ 3 ∷ 0 ∷ 0 ∷ [])
+    × (listing 1820 refusal-1 ≡ 0 ∷ 0 ∷ 0 ∷ 1 ∷ 0 ∷ 0 ∷ [])
+    × (listing 1820 refusal-2 ≡ 1 ∷ 16 ∷ 1247079423686475267 ∷ 2 ∷ 0 ∷ 0 ∷ [])
+    × (listing 1820 refusal-4 ≡ 4 ∷ 40 ∷ 858162269086096427 ∷ 4 ∷ 0 ∷ 0 ∷ [])
+    × (listing 1820 refusal-5 ≡ 5 ∷ 45 ∷ 1071876382301112663 ∷ 5 ∷ 0 ∷ 0 ∷ [])
+    × (listing 1820 refusal-6-skip ≡ 45 ∷ 163 ∷ 2221902904343503897 ∷ 6 ∷ 110 ∷ 1 ∷ [])
+    × (listing 1820 refusal-6-field ≡ 93 ∷ 1022 ∷ 778733100979519953 ∷ 6 ∷ 76 ∷ 1 ∷ [])
+    × (listing 1820 refusal-6-block-5 ≡ 90 ∷ 1024 ∷ 1885279947214924982 ∷ 6 ∷ 49 ∷ 6 ∷ [])
+    × (listing 1820 refusal-6-skip-5 ≡ 95 ∷ 213 ∷ 733100018367082917 ∷ 6 ∷ 110 ∷ 6 ∷ [])
+    × (listing 1820 refusal-6-walk-5 ≡ 97 ∷ 1017 ∷ 1141245542488094136 ∷ 6 ∷ 111 ∷ 6 ∷ [])
+    × (listing 1820 refusal-6-walk ≡ 45 ∷ 1019 ∷ 1752497196116173982 ∷ 6 ∷ 111 ∷ 1 ∷ [])
+    × (listing 1820 refusal-6-coupled ≡ 91 ∷ 1023 ∷ 2190410021756002127 ∷ 6 ∷ 111 ∷ 1 ∷ [])
+    × (listing 1820 refusal-6-late ≡ 101 ∷ 1024 ∷ 893169045205364474 ∷ 6 ∷ 109 ∷ 6 ∷ [])
+    × (listing 1820 refusal-6-late-walk ≡ 97 ∷ 1017 ∷ 1141245542488094136 ∷ 6 ∷ 111 ∷ 6 ∷ [])
+    × (listing 210 stereo ≡ 210 ∷ 1254 ∷ 164836208445000784 ∷ 7 ∷ 0 ∷ 0 ∷ [])
+    × (listing 3 fscod-3 ≡ 3 ∷ 34 ∷ 1721548396395347304 ∷ 7 ∷ 0 ∷ 0 ∷ [])
+    × (listing 1820 refusal-8 ≡ 21 ∷ 69 ∷ 1740011256445656806 ∷ 8 ∷ 0 ∷ 0 ∷ [])
+    × (listing 1820 refusal-9 ≡ 25 ∷ 79 ∷ 1135262220787232406 ∷ 9 ∷ 0 ∷ 0 ∷ [])
+    × (listing 1820 refusal-10 ≡ 25 ∷ 79 ∷ 736931796212000109 ∷ 10 ∷ 0 ∷ 0 ∷ [])
+    × (listing 1820 refusal-11 ≡ 24 ∷ 78 ∷ 136118160906711183 ∷ 11 ∷ 0 ∷ 0 ∷ [])
+    × (listing 1820 refusal-12 ≡ 23 ∷ 72 ∷ 1626114153450911791 ∷ 12 ∷ 0 ∷ 0 ∷ [])
+    × (listing 1820 refusal-13 ≡ 40 ∷ 101 ∷ 1992228103901636574 ∷ 13 ∷ 0 ∷ 0 ∷ [])
+    × (listing 1820 refusal-14 ≡ 46 ∷ 120 ∷ 1436964737250862293 ∷ 14 ∷ 0 ∷ 0 ∷ [])
+    × (listing 1820 refusal-15 ≡ 35 ∷ 141 ∷ 938410465327665950 ∷ 15 ∷ 0 ∷ 0 ∷ [])
+    × (listing 1820 refusal-16 ≡ 26 ∷ 89 ∷ 228340918472774395 ∷ 16 ∷ 0 ∷ 0 ∷ [])
+    × (listing 1820 refusal-17 ≡ 26 ∷ 89 ∷ 1632667454438844254 ∷ 17 ∷ 0 ∷ 0 ∷ [])
+    × (listing 1820 refusal-18 ≡ 44 ∷ 155 ∷ 485436596335904740 ∷ 18 ∷ 0 ∷ 0 ∷ [])
+    × (listing 1820 refusal-19 ≡ 44 ∷ 155 ∷ 781682996369271754 ∷ 19 ∷ 0 ∷ 0 ∷ [])
+    × (listing 1820 refusal-20 ≡ 103 ∷ 398 ∷ 1343444548768297771 ∷ 20 ∷ 0 ∷ 0 ∷ [])
+    × (listing 1820 refusal-21 ≡ 26 ∷ 75 ∷ 1681950038189532974 ∷ 21 ∷ 0 ∷ 0 ∷ [])
+    × (listing 1820 refusal-22 ≡ 33 ∷ 127 ∷ 1780880590504274166 ∷ 22 ∷ 0 ∷ 0 ∷ [])
+    × (listing 1820 refusal-23 ≡ 40 ∷ 146 ∷ 2001894335952279341 ∷ 23 ∷ 0 ∷ 0 ∷ [])
 unfolding bitAt value bitsBefore sameBits rangeEq _>>=_ turns shown except exec andThen flatten landing finish roomCheck check sum unless run continue nfchans words48 words44 words32 frameBytes slowDecay fastDecay slowGain knee floor fastGain bandEnd logAdd hearing bap bapBits from placed snrOffset psdOf mappedPsd logadd bandSum bandOf startOf endOf bandPsd integratedPsd lowcomp lowAfter rises startLeak fallTo fallBy fallLeak leakStep excitations excitation overKnee maskOf maskingCurve deltaOf passed deltaIn deltaSum deltaApplied kept threshold thresholds addressOf bapOf Allocation-pointers allocation deltaCode channelCode segment newDeltas slotDeltas codedDeltas deltas newCurve curve fineOffset channelOffset newOffsets offsets newLeak couplingLeak step unpack group exponentSet slotExponents channelExponents exponents silent Mantissas-pointers allPointers widths mantissas channelParts parts syncinfo programmeInfo alternateInfo timeCodes additionalInfo bsi header howMany coupledChannels joined couplingBands newCoupling couplingStrategy coordinate channelCoordinates phaseFlags couplingCoordinates rematrixing channelStrategies exponentStrategies bandwidth bandwidths channelEnd channelEnds channelFlags dynamicRange channelSettings couplingSection exponentSection skipField allocState allSent audioBlock audio syncframe answered bytes plusOne checksum verdict short
 refused = (refl, refl, refl, refl, refl, refl, refl, refl, refl, refl, refl, refl, refl, refl, refl, refl, refl, refl, refl, refl, refl, refl, refl, refl, refl, refl, refl, refl, refl, refl, refl, refl)

@@ -6,6 +6,8 @@ pub mod Values
 pub mod Promise
 pub mod Unfitting
 pub mod Rooms
+pub mod Parts
+pub mod Counts
 pub mod Useless
 pub mod RowBound
 pub mod MoreRoom

@@ -14,6 +14,7 @@ use Rattle.ac3.specs.Frame.{syncframe}
 use Rattle.ac3.specs.Later.{LaterBytes}
 use Rattle.ac3.specs.MoreRoom.{MoreRoom}
 use Rattle.ac3.specs.OneAnswer.{OneAnswer}
+use Rattle.ac3.specs.Parts.{PartsOfRows, PartsOfRooms}
 use Rattle.ac3.specs.Promise.{Call, Promised, listed, bitOf, answerTo, Accepted, Demand3OfAnswers}
 use Rattle.ac3.specs.Rooms.{SpansByRole, Demand3OfRooms}
 use Rattle.ac3.specs.RowBound.{RowBound}
@@ -61,6 +62,12 @@ pub record Proved : Type 1 where
   pub header-and-blocks : HeaderAndBlocks
   -- ---- rows and room
 
+  -- What the ninth number of a row means, accepted or not: it is -1 exactly where the name is none of the eleven that have parts, and else
+  -- the number of rows before it of the same name, block and index. So a channel's bands are 0, 1, 2 and so on in each block, and so are
+  -- the groups of a set of exponents and the segments of a slot.
+  pub parts : PartsOfRooms
+  -- The same of the definition's rows.
+  pub parts-listed : PartsOfRows
   -- No frame has more than 4,067 rows, and with room for these none is refused for want of room.
   pub row-bound : RowBound
   -- More room changes nothing but that refusal.

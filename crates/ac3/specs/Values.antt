@@ -19,7 +19,7 @@ use Rattle.mantissas.specs.Mantissas.{noneOpen, widths}
 
 -- what one group makes of three bins from bin 0 on, after an exponent of 10
 abbrev pub grouped : ℕ → End Unpacked
-grouped code = parse (framed tooShort 1 >> group (plain 0) 1 0 0 (record { last = 10; row = replicate 3 (pos 0) })) (2 * code ∷ []) 1 .end
+grouped code = parse (framed tooShort 1 >> group plain 1 0 0 (record { last = 10; row = replicate 3 (pos 0) })) (2 * code ∷ []) 1 .end
 
 abbrev pub unpacked : (a b c : ℕ) → End Unpacked
 unpacked a b c = reached (record { last = c; row = pos a ∷ pos b ∷ pos c ∷ [] })

@@ -4,7 +4,7 @@ use mathlib.Core.List.{List, [], _∷_}
 use Prim.Native.Nat.{ℕ, _+_, _-_}
 use lib.Dec.{eqb, ltb}
 use lib.ListN.{getD, replicate}
-use Rattle.syntax.specs.Grammar.{Grammar, announced, done, _>>=_, _>>_, one, nth, take, flag, note, refuseIf, when, readIf, for, each, fill}
+use Rattle.syntax.specs.Grammar.{Grammar, announced, done, _>>=_, _>>_, one, nth, partOf, take, flag, note, refuseIf, when, readIf, for, each, fill}
 use Rattle.syntax.specs.Names as Name
 use Rattle.syntax.specs.Refusals.{noCouplingStrategy, noRematrixing, badCouplingRange, tooFewCoupled}
 use Rattle.slots.specs.declared.Coupling.{Coupling}
@@ -56,10 +56,11 @@ couplingStrategy blk acmod nfchans old = do
 
 -- ---- coordinates (4.4.3.14 to 4.4.3.18)
 
+-- the coordinate of a band
 unfoldable pub coordinate : (blk ch bnd : ℕ) → Grammar (Unit {0})
 coordinate blk ch bnd = do
-  note (nth blk Name.cplcoexp ch) 4
-  note (nth blk Name.cplcomant ch) 4
+  note (partOf blk Name.cplcoexp ch bnd) 4
+  note (partOf blk Name.cplcomant ch bnd) 4
 
 -- whether a channel sent coordinates: cplcoe (4.4.3.14)
 unfoldable pub channelCoordinates : (blk : ℕ) → Coupling → ℕ → Grammar Bool

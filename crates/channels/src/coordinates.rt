@@ -5,6 +5,7 @@ use syntax::Cursor;
 use syntax::Flagged;
 use syntax::elements::flags;
 use syntax::items::nth;
+use syntax::items::part_of;
 use syntax::names::*;
 use syntax::readers::flag;
 use syntax::readers::note;
@@ -18,12 +19,14 @@ ghost use Rattle.channels.specs.Coupling as grammar;
 ghost use Rattle.channels.specs.Sound.{SoundBands};
 
 fn coordinates(s: &[u8], rows: &mut [i32], c: Cursor, blk: u8, ch: u8, ncplbnd: usize) -> Cursor
+    requires { ⌜ ncplbnd ≤ 18 ⌝ }
     ensures { λ r. ⌜ Reads (syntax.each ncplbnd (grammar.coordinate blk ch)) (now (s .entry)) c (now (rows .entry)) tt r (now (rows .exit)) ⌝ }
 {
     let mut cursor = c;
-    for _bnd in 0..ncplbnd {
-        let cplcoexp = note(s, rows, cursor, nth(blk, CPLCOEXP, ch), 4);
-        cursor = note(s, rows, cplcoexp, nth(blk, CPLCOMANT, ch), 4);
+    for bnd in 0..ncplbnd {
+        let band = bnd as u8;
+        let cplcoexp = note(s, rows, cursor, part_of(blk, CPLCOEXP, ch, band), 4);
+        cursor = note(s, rows, cplcoexp, part_of(blk, CPLCOMANT, ch, band), 4);
     }
     cursor
 }
@@ -38,6 +41,7 @@ fn channel_coordinates(
     ch: u8,
 ) -> Flagged
     requires { ⌜ ch < 5 ⌝ }
+    requires { ⌜ SoundBands coupling ⌝ }
     ensures { λ r. ⌜ Reads (grammar.channelCoordinates blk coupling ch) (now (s .entry)) c (now (rows .entry)) (r .set) (r .cursor) (now (rows .exit)) ⌝ }
 {
     if coupling.chincpl[ch as usize] {
@@ -66,6 +70,7 @@ fn sent_coordinates(
     coupling: Coupling,
 ) -> ChannelFlags
     requires { ⌜ nfchans ≤ 5 ⌝ }
+    requires { ⌜ SoundBands coupling ⌝ }
     ensures { λ r. ⌜ Reads (syntax.fill nfchans (replicate 5 false) (grammar.channelCoordinates blk coupling)) (now (s .entry)) c (now (rows .entry)) (r .set) (r .cursor) (now (rows .exit)) ⌝ }
 {
     let mut set = [false; 5];

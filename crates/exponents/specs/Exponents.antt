@@ -8,7 +8,7 @@ use lib.ListN.{getD, set, replicate}
 use lib.Seq.{sets}
 use Rattle.syntax.specs.declared.Item.{Item}
 use Rattle.syntax.specs.declared.Refusal.{Refusal}
-use Rattle.syntax.specs.Grammar.{Grammar, done, _>>=_, _>>_, nth, take, note, refuseIf, when, readIf, for}
+use Rattle.syntax.specs.Grammar.{Grammar, done, _>>=_, _>>_, nth, partOf, take, note, refuseIf, when, readIf, for}
 use Rattle.syntax.specs.Names as Name
 use Rattle.syntax.specs.Refusals.{noCouplingExponents, noChannelExponents, noLfeExponents, badGroup, badExponent}
 use Rattle.slots.specs.Slots.{CPL, LFE, firstCoupled, pastCoupled, isNew}
@@ -56,9 +56,9 @@ abbrev pub spread : (bins a b c : ℕ) → List ℤ
 spread bins a b c = replicate bins (pos a) ++ replicate bins (pos b) ++ replicate bins (pos c)
 
 -- group number n of a set whose groups begin at bin `first`
-unfoldable pub group : Item → (bins first n : ℕ) → Unpacked → Grammar Unpacked
+unfoldable pub group : (item : ℕ → Item) (bins first n : ℕ) → Unpacked → Grammar Unpacked
 group item bins first n u = do
-  grouped ← take item 7
+  grouped ← take (item n) 7
   three ← unpack (u .last) grouped
   let (a, b, c) = three
   done (record { last = c; row = sets (u .row) (first + n * (3 * bins)) (spread bins a b c) })
@@ -87,7 +87,7 @@ unfoldable pub exponentSet : (blk slot strategy start end : ℕ) → Grammar (Li
 exponentSet blk slot strategy start end = do
   absexp ← take (nth blk (firstName slot) (exponentIndex slot)) 4
   unpacked ← for 0 (groupCount slot strategy start end) (unpackedFirst slot absexp)
-      (group (nth blk (groupName slot) (exponentIndex slot)) (binsEach strategy) (firstGrouped slot start))
+      (group (partOf blk (groupName slot) (exponentIndex slot)) (binsEach strategy) (firstGrouped slot start))
   done (unpacked .row)
 
 -- ---- the sets of a block

@@ -6,6 +6,7 @@ use syntax::Cursor;
 use syntax::Item;
 use syntax::ROW;
 use syntax::Taken;
+use syntax::items::part_of;
 use syntax::readers::take;
 use syntax::readers::take_at_hand;
 ghost use mathlib.Core.Path.{_≡_};
@@ -14,7 +15,7 @@ ghost use Prim.Native.Nat.{_+_, _*_, _<_, _≤_};
 ghost use lib.IntN.{pos};
 ghost use lib.ListN.{replicate};
 ghost use lib.Seq.{sets};
-ghost use Rattle.syntax.specs.Grammar.{for, take};
+ghost use Rattle.syntax.specs.Grammar.{for, take, partOf};
 ghost use Rattle.syntax.specs.Reads.{Goes, Reads};
 ghost use Rattle.slots.specs.Sound.{SoundRow};
 ghost use Rattle.exponents.specs.Exponents as grammar;
@@ -102,9 +103,12 @@ fn take_group(s: &[u8], rows: &mut [i32], c: Cursor, item: Item, sure: bool) -> 
     take(s, rows, c, item, 7)
 }
 
-// The groups of a set: what they are recorded as, their strategy, the first bin, and whether they are surely at hand.
+// The groups of a set: the block, name and index that they are recorded with, their strategy, the first bin, and whether they are surely at
+// hand.
 pub(crate) struct Grouping {
-    pub(crate) item: Item,
+    pub(crate) blk: u8,
+    pub(crate) name: u8,
+    pub(crate) index: u8,
     pub(crate) strategy: u8,
     pub(crate) first: usize,
     pub(crate) sure: bool,
@@ -132,13 +136,14 @@ fn group(
     requires { ⌜ SoundUnpacked (record { last = last; row = now row }) ⌝ }
     requires { ⌜ Steps (now steps) ⌝ }
     requires { ⌜ (set .sure ≡ true → AtHand c 1 (now s) (now rows)) ⌝ }
-    ensures { λ r. ⌜ Reads (grammar.group (set .item) (grammar.binsEach (set .strategy)) (set .first) n (record { last = last; row = now (row .entry) })) (now (s .entry)) c (now (rows .entry))
+    ensures { λ r. ⌜ Reads (grammar.group (partOf (set .blk) (set .name) (set .index)) (grammar.binsEach (set .strategy)) (set .first) n (record { last = last; row = now (row .entry) })) (now (s .entry)) c (now (rows .entry))
         (record { last = r .last; row = now (row .exit) }) (r .cursor) (now (rows .exit)) ⌝ }
     ensures { λ r. ⌜ SoundUnpacked (record { last = r .last; row = now (row .exit) }) ⌝ }
     ensures { λ r. ⌜ (set .sure ≡ true → Goes (r .cursor) → r .cursor ≡ past c) ⌝ }
 {
     let at = set.first + n * (3 * bins_each(set.strategy));
-    let grouped = take_group(s, rows, c, set.item, set.sure);
+    let item = part_of(set.blk, set.name, set.index, n as u8);
+    let grouped = take_group(s, rows, c, item, set.sure);
     let three = unpack(grouped.cursor, steps, last, grouped.value);
     spread(row, at, set.strategy, three);
     let cursor = three.cursor;
@@ -162,7 +167,7 @@ pub(crate) fn groups(
     requires { ⌜ set .first + count * (3 * grammar.binsEach (set .strategy)) ≤ 256 ⌝ }
     requires { ⌜ SoundUnpacked (record { last = last; row = now row }) ⌝ }
     requires { ⌜ (set .sure ≡ true → AtHand c count (now s) (now rows)) ⌝ }
-    ensures { λ r. ⌜ Reads (for 0 count (record { last = last; row = now (row .entry) }) (grammar.group (set .item) (grammar.binsEach (set .strategy)) (set .first))) (now (s .entry)) c (now (rows .entry))
+    ensures { λ r. ⌜ Reads (for 0 count (record { last = last; row = now (row .entry) }) (grammar.group (partOf (set .blk) (set .name) (set .index)) (grammar.binsEach (set .strategy)) (set .first))) (now (s .entry)) c (now (rows .entry))
         (record { last = r .last; row = now (row .exit) }) (r .cursor) (now (rows .exit)) ⌝ }
     ensures { λ r. ⌜ SoundUnpacked (record { last = r .last; row = now (row .exit) }) ⌝ }
 {

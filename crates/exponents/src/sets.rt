@@ -106,11 +106,9 @@ pub(crate) fn exponent_set(
     let last = first_exponent(row, set.slot, absexp.value);
     let count = group_count(set);
     let grouped = Grouping {
-        item: nth(
-            set.blk,
-            name_of(set.slot, names::CPLEXPS, names::LFEEXPS, names::EXPS),
-            index,
-        ),
+        blk: set.blk,
+        name: name_of(set.slot, names::CPLEXPS, names::LFEEXPS, names::EXPS),
+        index,
         strategy: set.strategy,
         first: first_grouped(set.slot, set.start),
         sure: all_at_hand(s, &*rows, absexp.cursor, count),

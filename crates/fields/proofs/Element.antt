@@ -37,7 +37,7 @@ module _ {M : Type 1} (𝓤 : URA M) (H : Heap 𝓤) (A : Atoms 𝓤) (W : Given
 
 -- the bytes of one record
 abbrev pub bytes : ℕ
-bytes = 28
+bytes = 32
 
 -- the place of element i, as the MIR computes it
 pub place-of : (o i : ℕ) → i * bytes + o ≡ place bytes o i
@@ -45,4 +45,4 @@ place-of o i = sym (place-is bytes o i)
 
 -- that computation does not wrap
 pub offset-fits : (n i : ℕ) → Room R n → i < n → i * bytes < 2 ^ 64
-offset-fits n i room within = let h : n * 28 < 2 ^ 63 = room .1 in omega arith
+offset-fits n i room within = let h : n * bytes < 2 ^ 63 = room .1 in omega arith

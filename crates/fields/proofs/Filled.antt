@@ -49,7 +49,7 @@ module _ {X : Type 0} (row : X → List ℤ) where
     next-number : (m n : ℕ) → m ≡ n + rowWidth → getD (rowAt (row x) 0 ++ rest) m (pos 0) ≡ getD rest n (pos 0)
     next-number m n e = ap (λ k. getD (rowAt (row x) 0 ++ rest) k (pos 0)) e′
       where
-        e′ : m ≡ suc (suc (suc (suc (suc (suc (suc (suc n)))))))
+        e′ : m ≡ suc (suc (suc (suc (suc (suc (suc (suc (suc n))))))))
         e′ = omega (arith, e)
 
     next-row : (i : ℕ) → fieldAt (rowAt (row x) 0 ++ rest) (suc i) ≡ fieldAt rest i
@@ -64,6 +64,7 @@ module _ {X : Type 0} (row : X → List ℤ) where
         ∷ next-number (suc i * rowWidth + 5) (i * rowWidth + 5) (omega arith) j
         ∷ next-number (suc i * rowWidth + 6) (i * rowWidth + 6) (omega arith) j
         ∷ next-number (suc i * rowWidth + 7) (i * rowWidth + 7) (omega arith) j
+        ∷ next-number (suc i * rowWidth + 8) (i * rowWidth + 8) (omega arith) j
         ∷ [])
 
   filled-joined : (xs : List X) (more : List ℤ) (run : List Field) → length xs ≤ length run

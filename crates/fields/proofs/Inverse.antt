@@ -59,7 +59,7 @@ role-back BlkStrtInfo h = refl
 
 -- a record with another role
 abbrev withRole : Field → Role → Field
-withRole f role = record { name = f .name; role = role; block = f .block; index = f .index; position = f .position; width = f .width; value = f .value }
+withRole f role = record { name = f .name; role = role; block = f .block; index = f .index; position = f .position; width = f .width; value = f .value; part = f .part }
 
 field-back : (f : Field) → InByte (f .role) → fieldOf (rowOf f) ≡ f
 field-back f h = ap (withRole f) (role-back (f .role) h)

@@ -1,4 +1,4 @@
--- A row's eight numbers as a record, and a record as a row; a run of records that the first rows of a run of rows are offered over.
+-- A row's nine numbers as a record, and a record as a row; a run of records that the first rows of a run of rows are offered over.
 use mathlib.Core.List.{List, [], _∷_, _++_, map}
 use Prim.Native.Nat.{ℕ, zero, suc, _+_, _*_, _/_, min}
 use lib.IntN.{ℤ, pos, negsuc}
@@ -40,19 +40,20 @@ fieldOf row =
       position = n 5;
       width = n 6;
       value = n 7;
+      part = n 8;
     }
 
 abbrev pub rowOf : Field → List ℤ
 rowOf f =
     let said = roleNumbers (f .role) in
-    f .name ∷ pos (said .0) ∷ shown (said .1) ∷ f .block ∷ f .index ∷ f .position ∷ f .width ∷ f .value ∷ []
+    f .name ∷ pos (said .0) ∷ shown (said .1) ∷ f .block ∷ f .index ∷ f .position ∷ f .width ∷ f .value ∷ f .part ∷ []
 
 -- row i of a run of rows, and its record
 abbrev pub rowAt : List ℤ → ℕ → List ℤ
 rowAt rows i =
     let at = i * rowWidth in
     let n : ℕ → ℤ = λ k. getD rows k (pos 0) in
-    n at ∷ n (at + 1) ∷ n (at + 2) ∷ n (at + 3) ∷ n (at + 4) ∷ n (at + 5) ∷ n (at + 6) ∷ n (at + 7) ∷ []
+    n at ∷ n (at + 1) ∷ n (at + 2) ∷ n (at + 3) ∷ n (at + 4) ∷ n (at + 5) ∷ n (at + 6) ∷ n (at + 7) ∷ n (at + 8) ∷ []
 
 abbrev pub fieldAt : List ℤ → ℕ → Field
 fieldAt rows i = fieldOf (rowAt rows i)

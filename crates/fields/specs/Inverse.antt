@@ -39,6 +39,7 @@ pub record Inverse : Type 0 where
         position = pos (r .at);
         width = pos (r .width);
         value = pos (r .value);
+        part = shown (r .item .part);
       }
   -- and gives the row back
   pub row-back : (r : Row) → InByte (r .item .role) → rowOf (recordOf r) ≡ numbers r

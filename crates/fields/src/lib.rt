@@ -1,5 +1,5 @@
-// The rows of a frame as records: a `Field` holds its `Role`, with the programme that the role speaks of, and the row's other six
-// numbers. Functions with a run of records are proved by hand and are thin; the work on numbers is in functions that take and return a
+// The rows of a frame as records: a `Field` holds its `Role`, with the programme that the role speaks of, and the row's other
+// seven numbers. Functions with a run of records are proved by hand and are thin; the work on numbers is in functions that take and return a
 // record by value.
 use ac3::Answer;
 use ac3::MOST_ROWS;
@@ -18,7 +18,7 @@ ghost use Rattle.fields.specs.Fields.{programmeOf, roleOf, fieldOf, rowO
 // The numbers of the most rows that a frame can have.
 const NUMBERS: usize = MOST_ROWS * ROW;
 
-// -1 stands for "none" in block and index.
+// -1 stands for "none" in block, index and part.
 pub struct Field {
     pub name: i32,
     pub role: Role,
@@ -27,6 +27,7 @@ pub struct Field {
     pub position: i32,
     pub width: i32,
     pub value: i32,
+    pub part: i32,
 }
 
 // The programme of a row as a role holds it.
@@ -87,6 +88,7 @@ pub fn field_of(row: [i32; ROW]) -> Field
         position: row[5],
         width: row[6],
         value: row[7],
+        part: row[8],
     }
 }
 
@@ -105,6 +107,7 @@ pub fn row_of(field: Field) -> [i32; ROW]
         field.position,
         field.width,
         field.value,
+        field.part,
     ]
 }
 
@@ -123,6 +126,7 @@ fn field_at(rows: &[i32], i: usize) -> Field
         rows[at + 5],
         rows[at + 6],
         rows[at + 7],
+        rows[at + 8],
     ])
 }
 
@@ -161,6 +165,7 @@ fn put_row(rows: &mut [i32], i: usize, row: [i32; ROW])
     rows[at + 5] = row[5];
     rows[at + 6] = row[6];
     rows[at + 7] = row[7];
+    rows[at + 8] = row[8];
 }
 
 // As many records as a frame can have rows, all of a row of zeros.

@@ -3,7 +3,7 @@ use Prim.Native.Nat.{ℕ, _*_}
 use Rattle.syntax.specs.Numbers.{rowWidth}
 
 abbrev pub rowsLent : ℕ
-rowsLent = 2048
+rowsLent = 1820
 
 abbrev pub numbersLent : ℕ
 numbersLent = rowsLent * rowWidth

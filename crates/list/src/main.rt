@@ -1,4 +1,4 @@
-// Lists one frame: reads it from standard input (at most 3,840 bytes, later ones are not read), parses it with room for 2,048 rows, and
+// Lists one frame: reads it from standard input (at most 3,840 bytes, later ones are not read), parses it with room for 1,820 rows, and
 // prints each row's numbers and a last line, `audio ROWS BYTES AUDIO_END` or `refused NUMBER ROWS BIT NAME BLOCK`.
 use ac3::Answer;
 use libc::STDIN_FILENO;
@@ -11,7 +11,7 @@ ghost use lib.ListN.{length};
 ghost use Rattle.list.specs.Lent.{rowsLent, numbersLent};
 
 // The rows that are lent, the numbers of these, and the bytes of a line: twenty digits, a sign and a space for each number of a row.
-const ROWS: usize = 2048;
+const ROWS: usize = 1820;
 
 const NUMBERS: usize = ROWS * ROW;
 

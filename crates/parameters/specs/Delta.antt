@@ -6,7 +6,7 @@ use lib.Dec.{eqb}
 use lib.ListN.{getD, set, replicate}
 use lib.Seq.{sets}
 use Rattle.syntax.specs.declared.Item.{Item}
-use Rattle.syntax.specs.Grammar.{Grammar, done, _>>=_, _>>_, one, nth, take, flag, refuseIf, readIf, for}
+use Rattle.syntax.specs.Grammar.{Grammar, done, _>>=_, _>>_, one, nth, partOf, take, flag, refuseIf, readIf, for}
 use Rattle.syntax.specs.Names as Name
 use Rattle.syntax.specs.Refusals.{noDelta, badDelta}
 use Rattle.slots.specs.Slots.{CPL, noDeltas}
@@ -34,9 +34,9 @@ deltaName slot coupling channel = cond (eqb slot CPL) coupling channel
 
 unfoldable pub segment : (blk slot seg : ℕ) → List ℕ → Grammar (List ℕ)
 segment blk slot seg segments = do
-  deltoffst ← take (nth blk (deltaName slot Name.cpldeltoffst Name.deltoffst) slot) 5
-  deltlen ← take (nth blk (deltaName slot Name.cpldeltlen Name.deltlen) slot) 4
-  deltba ← take (nth blk (deltaName slot Name.cpldeltba Name.deltba) slot) 3
+  deltoffst ← take (partOf blk (deltaName slot Name.cpldeltoffst Name.deltoffst) slot seg) 5
+  deltlen ← take (partOf blk (deltaName slot Name.cpldeltlen Name.deltlen) slot seg) 4
+  deltba ← take (partOf blk (deltaName slot Name.cpldeltba Name.deltba) slot seg) 3
   done (sets segments (seg * 3) (deltoffst ∷ deltlen ∷ deltba ∷ []))
 
 -- deltnseg (4.4.3.50, .54) is one less than the segments

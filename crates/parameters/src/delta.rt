@@ -7,6 +7,7 @@ use syntax::NONE;
 use syntax::cursors::refuse_if;
 use syntax::items::nth;
 use syntax::items::one;
+use syntax::items::part_of;
 use syntax::names;
 use syntax::readers::flag;
 use syntax::readers::take;
@@ -193,9 +194,22 @@ fn segment(
     let offset_name = delta_name(slot, names::CPLDELTOFFST, names::DELTOFFST);
     let length_name = delta_name(slot, names::CPLDELTLEN, names::DELTLEN);
     let code_name = delta_name(slot, names::CPLDELTBA, names::DELTBA);
-    let deltoffst = take(s, rows, c, nth(blk, offset_name, slot), 5);
-    let deltlen = take(s, rows, deltoffst.cursor, nth(blk, length_name, slot), 4);
-    let deltba = take(s, rows, deltlen.cursor, nth(blk, code_name, slot), 3);
+    let part = seg as u8;
+    let deltoffst = take(s, rows, c, part_of(blk, offset_name, slot, part), 5);
+    let deltlen = take(
+        s,
+        rows,
+        deltoffst.cursor,
+        part_of(blk, length_name, slot, part),
+        4,
+    );
+    let deltba = take(
+        s,
+        rows,
+        deltlen.cursor,
+        part_of(blk, code_name, slot, part),
+        3,
+    );
     let segments = with_segment(segments, seg, deltoffst.value, deltlen.value, deltba.value);
     let cursor = deltba.cursor;
     SegmentsRead { segments, cursor }

@@ -35,24 +35,27 @@ here k >>= f = here (λ at. k at >>= f)
 abbrev pub _>>_ : {A B : Type 0} → Grammar A → Grammar B → Grammar B
 g >> h = g >>= (λ _. h)
 
--- ---- items; 255 stands for no block and for no index
+-- ---- items; 255 stands for no block, no index and no part
 
 -- outside the blocks: of no role, and of a role
 abbrev pub plain : ℕ → Item
-plain name = record { name = name; role = Plain; block = 255; index = 255 }
+plain name = record { name = name; role = Plain; block = 255; index = 255; part = 255 }
 
 abbrev pub roled : Role → ℕ → Item
-roled role name = record { name = name; role = role; block = 255; index = 255 }
+roled role name = record { name = name; role = role; block = 255; index = 255; part = 255 }
 
--- in a block: of no role, with no index and with one; of a role
+-- in a block: of no role, with no index and with one, and the part of one that is sent for each; of a role
 abbrev pub one : (block name : ℕ) → Item
-one block name = record { name = name; role = Plain; block = block; index = 255 }
+one block name = record { name = name; role = Plain; block = block; index = 255; part = 255 }
 
 abbrev pub nth : (block name index : ℕ) → Item
-nth block name index = record { name = name; role = Plain; block = block; index = index }
+nth block name index = record { name = name; role = Plain; block = block; index = index; part = 255 }
+
+abbrev pub partOf : (block name index part : ℕ) → Item
+partOf block name index part = record { name = name; role = Plain; block = block; index = index; part = part }
 
 abbrev pub oneRoled : ℕ → Role → ℕ → Item
-oneRoled block role name = record { name = name; role = role; block = block; index = 255 }
+oneRoled block role name = record { name = name; role = role; block = block; index = 255; part = 255 }
 
 -- ---- words for writing a grammar
 

@@ -9,7 +9,7 @@ use Rattle.syntax.specs.declared.Role.the-variants.{Plain, Sync, Crc1, C
 use Rattle.syntax.specs.declared.RoleNumbers.{RoleNumbers}
 use Rattle.syntax.specs.Run.{Row}
 
--- a block, an index or a programme as a row says it: 255 stands for "none"
+-- a block, an index, a programme or a part as a row says it: 255 stands for "none"
 unfoldable pub shown : ℕ → ℤ
 shown n = cond (eqb n 255) (negsuc 0) (pos n)
 
@@ -39,11 +39,11 @@ roleNumbers BlkStrtInfo = (20, 255)
 
 -- so many are the numbers of a row
 abbrev pub rowWidth : ℕ
-rowWidth = 8
+rowWidth = 9
 
--- name, role, programme, block, index, position, width, value
+-- name, role, programme, block, index, position, width, value, part
 abbrev pub numbers : Row → List ℤ
 numbers r =
     let said = roleNumbers (r .item .role) in
     pos (r .item .name) ∷ pos (said .0) ∷ shown (said .1) ∷ shown (r .item .block) ∷ shown (r .item .index)
-    ∷ pos (r .at) ∷ pos (r .width) ∷ pos (r .value) ∷ []
+    ∷ pos (r .at) ∷ pos (r .width) ∷ pos (r .value) ∷ shown (r .item .part) ∷ []

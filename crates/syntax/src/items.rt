@@ -1,4 +1,4 @@
-// The elements of the syntax, by the five words of the definition.
+// The elements of the syntax, by the six words of the definition.
 use crate::Item;
 use crate::NONE;
 use crate::Role;
@@ -14,6 +14,7 @@ pub fn plain(name: u8) -> Item
         role: Role::Plain,
         block: NONE,
         index: NONE,
+        part: NONE,
     }
 }
 
@@ -25,10 +26,11 @@ pub fn roled(role: Role, name: u8) -> Item
         role,
         block: NONE,
         index: NONE,
+        part: NONE,
     }
 }
 
-// In a block: of no role, with no index and with one; of a role.
+// In a block: of no role, with no index and with one, and the part of one that is sent for each; of a role.
 pub fn one(block: u8, name: u8) -> Item
     ensures { λ r. ⌜ r ≡ grammar.one block name ⌝ }
 {
@@ -37,6 +39,7 @@ pub fn one(block: u8, name: u8) -> Item
         role: Role::Plain,
         block,
         index: NONE,
+        part: NONE,
     }
 }
 
@@ -48,6 +51,19 @@ pub fn nth(block: u8, name: u8, index: u8) -> Item
         role: Role::Plain,
         block,
         index,
+        part: NONE,
+    }
+}
+
+pub fn part_of(block: u8, name: u8, index: u8, part: u8) -> Item
+    ensures { λ r. ⌜ r ≡ grammar.partOf block name index part ⌝ }
+{
+    Item {
+        name,
+        role: Role::Plain,
+        block,
+        index,
+        part,
     }
 }
 
@@ -59,5 +75,6 @@ pub fn one_roled(block: u8, role: Role, name: u8) -> Item
         role,
         block,
         index: NONE,
+        part: NONE,
     }
 }

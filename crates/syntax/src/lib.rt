@@ -10,9 +10,9 @@ pub mod refusals;
 pub mod rows;
 
 // The numbers of a row.
-pub const ROW: usize = 8;
+pub const ROW: usize = 9;
 
-// No block, no index, no programme: a row says -1.
+// No block, no index, no programme, no part: a row says -1.
 pub const NONE: u8 = 255;
 
 // What an element means to the metadata editor. Everything not listed is Plain.
@@ -40,13 +40,14 @@ pub enum Role {
     BlkStrtInfo,
 }
 
-// An element of the syntax: all that its row says but the position, the width and the value. (A walk's width is known only
-// at its end, so a width stands beside the item.)
+// An element of the syntax: all that its row says but the position, the width and the value. Its part is the band, the group or the segment
+// of an element that is sent for each. (A walk's width is known only at its end, so a width stands beside the item.)
 pub struct Item {
     pub name: u8,
     pub role: Role,
     pub block: u8,
     pub index: u8,
+    pub part: u8,
 }
 
 // The two numbers of a row that say its role: the role's, and the programme that it speaks of.

@@ -46,7 +46,7 @@ pub fn role_numbers(role: Role) -> RoleNumbers
     }
 }
 
-// A block, an index or a programme as a row says it. (Public for the same reason.)
+// A block, an index, a programme or a part as a row says it. (Public for the same reason.)
 pub fn shown(n: u8) -> i32
     ensures { λ r. ⌜ r ≡ numbers.shown n ⌝ }
 {
@@ -68,6 +68,7 @@ pub fn write_row(rows: &mut [i32], to: usize, item: Item, start: u16, width: u16
     rows[to + 5] = start as i32;
     rows[to + 6] = width as i32;
     rows[to + 7] = value as i32;
+    rows[to + 8] = shown(item.part);
 }
 
 // Records an element whose bits were found to fit, and stands after them: refused where no row is left.

@@ -78,7 +78,7 @@ fn main() {
     let wished = goals::wished();
     let missed = counts.missed(&wished);
     println!(
-        "\nof {} values and coupling ranges, {} were not drawn",
+        "\nof {} values, coupling ranges and numbers of bands, groups and segments, {} were not drawn",
         wished.len(),
         missed.len()
     );
@@ -111,6 +111,10 @@ fn main() {
         (STRATEGY, "every exponent strategy in every block"),
         (FEATURE, "every feature"),
         (PLACE, "every sort of place"),
+        (
+            LAST_PART,
+            "the most bands, groups and segments of every name",
+        ),
         (LEFT_OVER, "every number of left-over numbers"),
     ] {
         let of_kind: Vec<Goal> = required.iter().copied().filter(|g| g.0 == kind).collect();

@@ -1,5 +1,5 @@
 //! CUT COPY of `ddpmeta/ac3.rs`. Changed: the cursor comes from the caller, every refusal names its number of
-//! docs/FORMAT.md at its site, "coordinates sent" is noted, and it ends where `audio_end` is set.
+//! docs/FORMAT.md at its site, bands of coordinates are told, "coordinates sent" is noted, and it ends where `audio_end` is set.
 //!
 //! AC-3 syncframe parser, ETSI TS 102 366 V1.4.1 clause 4.3 (syncinfo, bsi, audblk, auxdata,
 //! errorcheck) with the Annex D alternate BSI for bsid 6. Every element is recorded.
@@ -196,9 +196,9 @@ pub fn parse<S: Source>(cur: &mut Cursor<'_, S>) -> Result<Summary> {
                     cplcoe[ch] = cur.flagi("cplcoe", ch)?;
                     if cplcoe[ch] {
                         cur.geti("mstrcplco", ch, 2)?;
-                        for _ in 0..ncplbnd {
-                            cur.geti("cplcoexp", ch, 4)?;
-                            cur.geti("cplcomant", ch, 4)?;
+                        for bnd in 0..ncplbnd {
+                            cur.get_part("cplcoexp", ch, bnd, 4)?;
+                            cur.get_part("cplcomant", ch, bnd, 4)?;
                         }
                     }
                 }

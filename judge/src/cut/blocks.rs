@@ -1,5 +1,5 @@
-//! CUT COPY of `ddpmeta/blocks.rs`. Changed: the cursor's type, and every refusal names its number of docs/FORMAT.md
-//! at its site (0: docs/FORMAT.md says that it cannot happen). `aht` and `refuse` are dropped.
+//! CUT COPY of `ddpmeta/blocks.rs`. Changed: the cursor's type, groups and segments are told, and every refusal names its number of
+//! docs/FORMAT.md at its site (0: docs/FORMAT.md says that it cannot happen). `aht` and `refuse` are dropped.
 //!
 //! Audio block machinery shared by the AC-3 (4.3.3) and E-AC-3 (E.1.2.4) parsers: exponent
 //! unpacking (6.1.3), bit allocation state (6.2.2), and mantissa section lengths (6.3.5 for
@@ -57,8 +57,8 @@ pub fn read_exponents<S: Source>(
     if slot != CPL {
         out.push(prev);
     }
-    for _ in 0..ngrps {
-        let g = cur.geti(grpname, index, 7)?;
+    for grp in 0..ngrps {
+        let g = cur.get_part(grpname, index, grp, 7)?;
         if g > 124 {
             return no(16, format!("grouped exponent {g} > 124"));
         }
@@ -122,10 +122,10 @@ impl AllocState {
         };
         let nseg = cur.geti(n, slot, 3)? as usize;
         let mut segs = Vec::with_capacity(nseg + 1);
-        for _ in 0..=nseg {
-            let offset = cur.geti(o, slot, 5)? as u8;
-            let len = cur.geti(l, slot, 4)? as u8;
-            let ba = cur.geti(b, slot, 3)? as u8;
+        for seg in 0..=nseg {
+            let offset = cur.get_part(o, slot, seg, 5)? as u8;
+            let len = cur.get_part(l, slot, seg, 4)? as u8;
+            let ba = cur.get_part(b, slot, seg, 3)? as u8;
             segs.push(DeltaSeg { offset, len, ba });
         }
         self.delta[slot] = segs;

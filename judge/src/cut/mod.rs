@@ -1,6 +1,7 @@
 //! What docs/FORMAT.md asks of a parse, answered by the published Rust cut at `audio_end`.
 //!
-//! Added to the Rust: numbers for names, roles and refusals, the room rule (refusal 7), and what did not fit (refusal 6).
+//! Added to the Rust: numbers for names, roles and refusals, the room rule (refusal 7), what did not fit (refusal 6), and which band,
+//! group or segment a field is.
 //! `ac3` and `blocks` here are copies of the published files; to see every change:
 //! `diff -u ddpmeta/ac3.rs src/cut/ac3.rs` and the same for `blocks.rs`.
 
@@ -8,7 +9,7 @@ pub mod ac3;
 pub mod blocks;
 
 use crate::bits;
-use crate::layout::{answer_at, row, ANSWER, ROW};
+use crate::layout::{answer_at, row, ANSWER, NO_PART, ROW};
 use crate::names;
 use crate::syntax::{Field, Role};
 
@@ -140,30 +141,39 @@ impl<'a, S: Source> Cursor<'a, S> {
     }
 
     /// The room rule, then the row.
-    fn record(
-        &mut self,
-        name: &'static str,
-        role: Role,
-        index: i16,
-        pos: usize,
-        width: usize,
-        value: u32,
-    ) -> Result<()> {
+    fn record(&mut self, field: &Field, part: i32) -> Result<()> {
         let at = ROW * self.count;
         let Some(room) = self.room.get_mut(at..at + ROW) else {
             return no(7, "no row left");
         };
-        room.copy_from_slice(&row(&Field {
+        room.copy_from_slice(&row(field, part));
+        self.count += 1;
+        Ok(())
+    }
+
+    fn read(
+        &mut self,
+        name: &'static str,
+        role: Role,
+        index: i16,
+        width: usize,
+        part: i32,
+    ) -> Result<u32> {
+        self.check(width, name, name)?;
+        let (block, pos) = (self.block, self.pos);
+        let value = self.source.field(name, index, block, pos, width);
+        let field = Field {
             name,
             role,
-            block: self.block,
+            block,
             index,
             pos,
             width,
             value,
-        }));
-        self.count += 1;
-        Ok(())
+        };
+        self.record(&field, part)?;
+        self.pos += width;
+        Ok(value)
     }
 
     pub fn get_role(
@@ -173,11 +183,18 @@ impl<'a, S: Source> Cursor<'a, S> {
         index: i16,
         width: usize,
     ) -> Result<u32> {
-        self.check(width, name, name)?;
-        let value = self.source.field(name, index, self.block, self.pos, width);
-        self.record(name, role, index, self.pos, width, value)?;
-        self.pos += width;
-        Ok(value)
+        self.read(name, role, index, width, NO_PART)
+    }
+
+    /// One of several bands, groups or segments: the part is which, from 0.
+    pub fn get_part(
+        &mut self,
+        name: &'static str,
+        index: usize,
+        part: usize,
+        width: usize,
+    ) -> Result<u32> {
+        self.read(name, Role::Plain, index as i16, width, part as i32)
     }
 
     pub fn get(&mut self, name: &'static str, width: usize) -> Result<u32> {
@@ -198,13 +215,32 @@ impl<'a, S: Source> Cursor<'a, S> {
 
     pub fn span(&mut self, name: &'static str, role: Role, width: usize) -> Result<()> {
         self.check(width, name, name)?;
-        self.record(name, role, -1, self.pos, width, 0)?;
+        self.record_span(name, role, self.pos, width)?;
         self.pos += width;
         Ok(())
     }
 
     pub fn close_span(&mut self, name: &'static str, role: Role, start: usize) -> Result<()> {
-        self.record(name, role, -1, start, self.pos - start, 0)
+        self.record_span(name, role, start, self.pos - start)
+    }
+
+    fn record_span(
+        &mut self,
+        name: &'static str,
+        role: Role,
+        pos: usize,
+        width: usize,
+    ) -> Result<()> {
+        let span = Field {
+            name,
+            role,
+            block: self.block,
+            index: -1,
+            pos,
+            width,
+            value: 0,
+        };
+        self.record(&span, NO_PART)
     }
 
     /// Pass over one mantissa or group. Its bits are never looked at; it belongs to its block's mantissas, whose row comes after the walk.

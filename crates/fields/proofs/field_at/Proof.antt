@@ -1,4 +1,4 @@
--- `fields::field_at` meets its contract: the eight numbers that are read are the row. Assumes nothing.
+-- `fields::field_at` meets its contract: the nine numbers that are read are the row. Assumes nothing.
 use mathlib.Core.List.{[], _∷_}
 use mathlib.Core.Path.{_≡_, refl, ap, _∙_}
 use Prim.Native.Nat.{ℕ, _+_, _*_}
@@ -13,7 +13,7 @@ use Rattle.fields.proofs.field_at.Tie as tie
 
 entries : tie.Need-returns
 entries c =
-    let start = c .before .before .before .before .before .before .before .before .before in
+    let start = c .before .before .before .before .before .before .before .before .before .before in
     let at = start .args .i * rowWidth in
     let n : ℕ → ℤ = λ k. getD (start .args .rows .now) k (pos 0) in
     c .field-of .ensures
@@ -27,6 +27,7 @@ entries c =
     ∷ (passed {x = n (at + 5)} (search needs) refl) i
     ∷ (passed {x = n (at + 6)} (search needs) refl) i
     ∷ (passed {x = n (at + 7)} (search needs) refl) i
+    ∷ (passed {x = n (at + 8)} (search needs) refl) i
     ∷ [])
 
 pub field-at-spec : {M : Type 1} → statement M
@@ -57,5 +58,8 @@ field-at-spec =
     (λ c. search needs)  -- add-t31
     (λ c. search needs)  -- mul-t32
     (λ c. search needs)  -- shared-slice-copy-out-t34
+    (λ c. search needs)  -- add-t35
+    (λ c. search needs)  -- mul-t36
+    (λ c. search needs)  -- shared-slice-copy-out-t38
     (λ c κs. search needs)  -- field-of-requires
     entries)

@@ -1,4 +1,4 @@
--- `fields::field_of` meets its contract: six numbers of the row are the record's own, and the calls make the role of the other two. Assumes
+-- `fields::field_of` meets its contract: seven numbers of the row are the record's own, and the calls make the role of the other two. Assumes
 -- nothing.
 use mathlib.Core.Path.{_≡_, refl, _∙_}
 use Prim.Native.Nat.{ℕ}
@@ -18,7 +18,7 @@ role-is e e₁ e₂ e₃ e₄ = rw (← e₂, ← e₄, ← e₁, ← e₃) e
 
 entries : tie.Need-returns
 entries c =
-    let t1 = c .before .before .before .before .before .before in
+    let t1 = c .before .before .before .before .before .before .before in
     let t2 = t1 .before in
     let t3 = t2 .before .before in
     let n : ℕ → ℤ = λ k. getD (t3 .before .before .args .t1) k (pos 0) in
@@ -31,6 +31,7 @@ entries c =
       position = (passed {x = n 5} (search needs) refl) i;
       width = (passed {x = n 6} (search needs) refl) i;
       value = (passed {x = n 7} (search needs) refl) i;
+      part = (passed {x = n 8} (search needs) refl) i;
     }
 
 pub field-of-spec : {M : Type 1} → statement M
@@ -48,4 +49,5 @@ field-of-spec =
     (λ c. search needs)  -- array-copy-out-t21
     (λ c. search needs)  -- array-copy-out-t24
     (λ c. search needs)  -- array-copy-out-t27
+    (λ c. search needs)  -- array-copy-out-t30
     entries)

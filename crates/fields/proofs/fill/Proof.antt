@@ -54,7 +54,7 @@ use Rattle.syntax.specs.Numbers.{rowWidth}
 use Rattle.fields.specs.Fields.{blank, fieldAt, filled}
 use Rattle.fields.specs.declared.Field.{Field}
 use Rattle.fields.proofs.Field.Laws as F′
-use Rattle.fields.proofs.Element.{R, machs, tells, typed, place-of, offset-fits}
+use Rattle.fields.proofs.Element.{bytes, R, machs, tells, typed, place-of, offset-fits}
 use Rattle.fields.proofs.Filled.{filled-none, filled-next, length-filled}
 use Rattle.fields.proofs.field_at as field-at
 use Rattle.fields.proofs.field_at.Symbol as field-at-def
@@ -221,7 +221,7 @@ module _ {M : Type 1} (𝓤 : URA M) (H : Heap 𝓤) (A : Atoms 𝓤) (W : Given
         there : n < length (done-to n)
         there = subst (λ (m : ℕ). n < m) (sym (same-length n)) in-run
 
-        off : n * 28 < 2 ^ 64
+        off : n * bytes < 2 ^ 64
         off = offset-fits (length ys) n room in-run
 
         next : Upto

@@ -1,4 +1,4 @@
--- `fields::put_row` meets its contract: the eight stores are the row. Assumes nothing.
+-- `fields::put_row` meets its contract: the nine stores are the row. Assumes nothing.
 use Prim.Native.Nat.{ℕ}
 use native.Mathlib.Omega.{arith}
 use native.Mathlib.Numerals.{towards-suc}
@@ -12,7 +12,7 @@ use Rattle.fields.proofs.put_row.Tie as tie
 
 returns : tie.Need-returns
 returns c =
-    let n : ℕ → ℤ = λ k. getD (c .before .before .before .before .before .before .before .before .args .t3) k (pos 0) in
+    let n : ℕ → ℤ = λ k. getD (c .before .before .before .before .before .before .before .before .before .args .t3) k (pos 0) in
     simp (
       towards-suc,
       toZ-ofZ {w = w32} {z = n 0} (search needs),
@@ -23,6 +23,7 @@ returns c =
       toZ-ofZ {w = w32} {z = n 5} (search needs),
       toZ-ofZ {w = w32} {z = n 6} (search needs),
       toZ-ofZ {w = w32} {z = n 7} (search needs),
+      toZ-ofZ {w = w32} {z = n 8} (search needs),
     )
 
 pub put-row-spec : {M : Type 1} → statement M
@@ -61,5 +62,9 @@ put-row-spec =
     (λ c. search needs)  -- add-t9
     (λ c. search needs)  -- mul-t13
     (λ c. simp length-set (omega arith))  -- slice-set-from-rows-8
+    (λ c. search needs)  -- array-copy-out-rows-9
+    (λ c. search needs)  -- add-t12
+    (λ c. search needs)  -- mul-t14
+    (λ c. simp length-set (omega arith))  -- slice-set-from-rows-9
     (λ c. simp length-set)  -- same-length
     returns)

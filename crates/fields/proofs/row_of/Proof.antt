@@ -1,4 +1,4 @@
--- `fields::row_of` meets its contract: six numbers are the record's own, and the calls give the other two. Assumes nothing.
+-- `fields::row_of` meets its contract: seven numbers are the record's own, and the calls give the other two. Assumes nothing.
 use mathlib.Core.List.{[], _∷_}
 use mathlib.Core.Path.{_≡_, refl, ap, _∙_}
 use native.Mathlib.Omega.{arith}
@@ -15,6 +15,7 @@ entries c =
     let t1 = c .before in
     let t2 = t1 .before .before in
     let f = t2 .before .args .field in
+    let held = t2 .before .good .0 .1 .1 .1 .1 .1 .1 .1 in
     let said = t2 .role-numbers .ensures in
     λ i.
     (passed {x = f .name} (search needs) refl) i
@@ -25,6 +26,7 @@ entries c =
     ∷ (passed {x = f .position} (search needs) refl) i
     ∷ (passed {x = f .width} (search needs) refl) i
     ∷ (passed {x = f .value} (search needs) refl) i
+    ∷ (passed {x = f .part} (search (needs, held)) refl) i
     ∷ []
 
 pub row-of-spec : {M : Type 1} → statement M

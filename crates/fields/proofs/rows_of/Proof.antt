@@ -61,7 +61,7 @@ use Rattle.fields.specs.Fields.{blank, rowOf, rowAt, fitting, rowsWritte
 use Rattle.fields.specs.declared.Field.{Field}
 use Rattle.fields.proofs.Field as F
 use Rattle.fields.proofs.Field.Laws as F′
-use Rattle.fields.proofs.Element.{R, mach, machs, tells, typed, place-of, offset-fits}
+use Rattle.fields.proofs.Element.{bytes, R, mach, machs, tells, typed, place-of, offset-fits}
 use Rattle.fields.proofs.Written.{written, written-none, written-next, length-written}
 use Rattle.fields.proofs.fitting as fits
 use Rattle.fields.proofs.fitting.Symbol as fits-def
@@ -318,7 +318,7 @@ module _ {M : Type 1} (𝓤 : URA M) (H : Heap 𝓤) (A : Atoms 𝓤) (W : Given
           in-run : k < length fs
           in-run = omega (arith, low, less)
 
-          off : k * 28 < 2 ^ 64
+          off : k * bytes < 2 ^ 64
           off = offset-fits (length fs) k fields-room in-run
 
           k-fits : k < 2 ^ 64

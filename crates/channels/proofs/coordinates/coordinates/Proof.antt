@@ -19,7 +19,7 @@ again c =
     let t2 = c .before in
     let t1 = t2 .before .before .before .before in
     let test = t1 .before .before .before in
-    turn (test .before .loop .inv) (test .loop-test .taken) (then _ (rw (t1 .before .nth .ensures) at (t1 .note .ensures)) (rw (t2 .before .nth2 .ensures) at (t2 .note2 .ensures)))
+    turn (test .before .loop .inv) (test .loop-test .taken) (then _ (rw (t1 .before .part-of .ensures) at (t1 .note .ensures)) (rw (t2 .before .part-of2 .ensures) at (t2 .note2 .ensures)))
 
 reads : tie.Need-returns Inv-loop μ-loop
 reads c = ends (c .before .loop .inv) (c .loop-test .left)
@@ -31,9 +31,10 @@ coordinates-spec =
     Inv-loop
     μ-loop
     (λ c. begins)  -- loop-holds
-    (λ c κs. tt)  -- nth-requires
+    (λ c. search needs)  -- cast-band
+    (λ c κs. tt)  -- part-of-requires
     (λ c κs. search needs)  -- note-requires
-    (λ c κs. tt)  -- nth-requires-2
+    (λ c κs. tt)  -- part-of-requires-2
     (λ c κs. search needs)  -- note-requires-2
     (λ c. omega (arith, c .before .before .before .before .before .before .before .before .loop-test .taken, c .before .before .before .before .before .before .before .before .before .before .before .fits .ncplbnd))  -- add-bnd
     (λ c. search needs)  -- loop-less

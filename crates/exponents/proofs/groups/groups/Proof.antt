@@ -6,6 +6,7 @@ use Prim.Native.Nat.{_-_, _*_}
 use native.Mathlib.Nat.{sub-zero}
 use native.Mathlib.Omega.{arith}
 use borrow.Author.Needs.{needs}
+use Rattle.syntax.specs.Grammar.{partOf}
 use Rattle.syntax.proofs.Sequence.{Turns, begins, turn, ends, leaves}
 use Rattle.exponents.specs.AtHand.{AtHand}
 use Rattle.exponents.specs.Exponents.{binsEach, group}
@@ -17,7 +18,7 @@ use Rattle.exponents.proofs.groups.groups.Tie as tie
 
 abbrev Inv-loop : tie.InvT-loop
 Inv-loop s rows₀ row₀ set count last steps exponent₀ cursor₀ n₀ rows row exponent cursor n =
-    Turns (group (set .item) (binsEach (set .strategy)) (set .first)) 0 count (record { last = exponent₀; row = row₀ }) s cursor₀ rows₀
+    Turns (group (partOf (set .blk) (set .name) (set .index)) (binsEach (set .strategy)) (set .first)) 0 count (record { last = exponent₀; row = row₀ }) s cursor₀ rows₀
     n (record { last = exponent; row = row }) cursor rows
     × SoundUnpacked (record { last = exponent; row = row })
     × (set .sure ≡ true → AtHand cursor (count - n) s rows)

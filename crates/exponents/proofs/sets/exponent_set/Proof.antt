@@ -10,7 +10,7 @@ fits : tie.Need-groups-requires
 fits c κs =
     let h = c .before .before in
     let first = h .before .before in
-    let count = first .before .before .before in
+    let count = first .before .before in
     let begun = count .before in
     let entry = begun .before .before .before .before .before .before .before .before .before in
     let pre = entry .pre in
@@ -23,14 +23,14 @@ unfolding exponentSet
 reads c =
     let g = c .before .before in
     let first = g .before .before .before .before .before in
-    let name = first .before .before in
+    let name = first .before in
     let count = name .before in
     let begun = count .before in
     let t = begun .before .before .before in
     let n = t .before .before .before in
     let i = n .before in (
       rw (← i .exponent-index .ensures, ← n .name-of .ensures, ← name .name-of2 .ensures, ← count .group-count .ensures, ← first .first-grouped .ensures)
-          (then _ (rw (t .before .nth .ensures) at (t .take .ensures .0)) (rw (← begun .first-exponent .ensures .0) (then _ (rw (first .before .nth2 .ensures) at (g .groups .ensures .0)) finished))),
+          (then _ (rw (t .before .nth .ensures) at (t .take .ensures .0)) (rw (← begun .first-exponent .ensures .0) (then _ (g .groups .ensures .0) finished))),
       g .groups .ensures .1 .row,
     )
 
@@ -45,7 +45,6 @@ exponent-set-spec =
     (λ c κs. search needs)  -- first-exponent-requires
     (λ c κs. search needs)  -- group-count-requires
     (λ c κs. search needs)  -- name-of-requires-2
-    (λ c κs. tt)  -- nth-requires-2
     (λ c κs. search needs)  -- first-grouped-requires
     (λ c κs. search needs)  -- all-at-hand-requires
     fits

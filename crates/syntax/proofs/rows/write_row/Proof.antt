@@ -1,4 +1,4 @@
--- `syntax::rows::write_row` meets its contract: the eight stores are the row, each number as it was cast or shown. Assumes nothing.
+-- `syntax::rows::write_row` meets its contract: the nine stores are the row, each number as it was cast or shown. Assumes nothing.
 use native.Mathlib.Omega.{arith}
 use native.Mathlib.Numerals.{towards-suc}
 use lib.ListN.{length-set}
@@ -45,9 +45,14 @@ write-row-spec =
     (λ c. search needs)  -- add-t9
     (λ c. search needs)  -- mul-t11
     (λ c. simp length-set (omega arith))  -- slice-set-from-rows-8
+    (λ c κs. search needs)  -- shown-requires-4
+    (λ c. search needs)  -- add-t12
+    (λ c. search needs)  -- mul-t10
+    (λ c. simp length-set (omega arith))  -- slice-set-from-rows-9
     (λ c. simp length-set)  -- same-length
     (λ c.
-    let block = c .before in
+    let index = c .before in
+    let block = index .before in
     let programme = block .before in
     let roled = programme .before .before .before in
     let args = roled .before .args in
@@ -60,6 +65,7 @@ write-row-spec =
       widened (args .value) (omega arith),
       toZ-ofZ {w = w32} {z = programme .shown .result} (search needs),
       toZ-ofZ {w = w32} {z = block .shown2 .result} (search needs),
-      toZ-ofZ {w = w32} {z = c .shown3 .result} (search needs),
+      toZ-ofZ {w = w32} {z = index .shown3 .result} (search needs),
+      toZ-ofZ {w = w32} {z = c .shown4 .result} (search needs),
     )
-    (rw (programme .shown .ensures, block .shown2 .ensures, c .shown3 .ensures, roled .role-numbers .ensures))))  -- returns
+    (rw (programme .shown .ensures, block .shown2 .ensures, index .shown3 .ensures, c .shown4 .ensures, roled .role-numbers .ensures))))  -- returns

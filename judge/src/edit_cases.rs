@@ -49,7 +49,7 @@ pub enum Case<'a> {
     Edit(Edit<'a>),
 }
 
-/// What a call of `set` asks, beside the capture's length in bits: sums without bound, and as 64 bits would give them.
+/// What a call of `set` asks, beside the capture's length in bits: sums without bound, and the end as 64 bits would give it.
 struct Asked {
     width: usize,
     value: usize,
@@ -57,7 +57,6 @@ struct Asked {
     place: u128,
     first: u128,
     end: u128,
-    first_of_64: u128,
     end_of_64: u128,
 }
 
@@ -69,7 +68,6 @@ impl Asked {
             value,
         } = write;
         let first = 8 * place as u128 + position as u128;
-        let by_64_bits = |sum: u128| sum % (1 << 64);
         Asked {
             width,
             value,
@@ -77,8 +75,7 @@ impl Asked {
             place: place as u128,
             first,
             end: first + width as u128,
-            first_of_64: by_64_bits(first),
-            end_of_64: by_64_bits(by_64_bits(first) + width as u128),
+            end_of_64: (first + width as u128) % (1 << 64),
         }
     }
 
@@ -103,6 +100,11 @@ impl Asked {
     }
 }
 
+/// Do 64 bits not count so far?
+fn far(bit: u128) -> bool {
+    bit >= 1 << 64
+}
+
 type Edge = (&'static str, u8, fn(&Asked) -> bool);
 
 /// Calls of `set` to be met, each with its answer.
@@ -118,11 +120,11 @@ const EDGES: [Edge; 19] = [
     ("begins at its end", PAST_THE_END, |a| a.first == a.capture && !a.wrong_width()),
     ("an empty capture", PAST_THE_END, |a| a.capture == 0 && !a.wrong_width()),
     ("a place that 64 bits do not count in bits", PAST_THE_END,
-        |a| 8 * a.place > a.first_of_64 && a.end_of_64 <= a.capture && !a.wrong_width() && a.place > a.capture),
+        |a| far(8 * a.place) && a.end_of_64 <= a.capture && !a.wrong_width()),
     ("a first bit that 64 bits do not count", PAST_THE_END,
-        |a| a.first > a.first_of_64 && a.end_of_64 <= a.capture && !a.wrong_width() && 8 * a.place <= a.capture),
+        |a| !far(8 * a.place) && far(a.first) && a.end_of_64 <= a.capture && !a.wrong_width()),
     ("an end that 64 bits do not count", PAST_THE_END,
-        |a| a.first == a.first_of_64 && a.end > a.end_of_64 && a.end_of_64 <= a.capture && !a.wrong_width()),
+        |a| !far(a.first) && far(a.end) && a.end_of_64 <= a.capture && !a.wrong_width()),
     ("the largest value of its width", 0, |a| a.done() && a.value == (1 << a.width) - 1),
     ("the least value that is too large", TOO_LARGE, |a| a.done_but_for_value() && a.value == 1 << a.width),
     ("a value too large by bits above 16 alone", TOO_LARGE,
@@ -210,7 +212,7 @@ pub fn not_listed() -> impl Iterator<Item = usize> {
 }
 
 /// Sizes and counts that are far out.
-fn far(rng: &mut Rng) -> usize {
+fn far_out(rng: &mut Rng) -> usize {
     let near = rng.below(40);
     let base = rng.pick(&[
         1 << 16,
@@ -314,13 +316,13 @@ impl<'s> Edits<'s> {
             _ => rng.bytes(length),
         };
         let width = match rng.below(20) {
-            0 => [far(rng), usize::MAX][rng.below(2)],
+            0 => [far_out(rng), usize::MAX][rng.below(2)],
             1 => rng.pick(&[0, 17, 18, 32, 64]),
             2 => WIDEST,
             _ => 1 + rng.below(WIDEST),
         };
         let place = match rng.below(10) {
-            0 => far(rng),
+            0 => far_out(rng),
             1 => length + rng.below(3),
             2 => 1 << 61,
             _ => rng.below(length + 1),
@@ -328,7 +330,7 @@ impl<'s> Edits<'s> {
         // The position at which the capture's end stands, if the place is before it.
         let end = 8 * length.saturating_sub(place);
         let position = match rng.below(12) {
-            0 => far(rng),
+            0 => far_out(rng),
             // The same bit, when counted by 64 bits.
             1 => rng
                 .below(8 * length + 1)
@@ -346,7 +348,7 @@ impl<'s> Edits<'s> {
         };
         let over = 1usize.checked_shl(width.min(64) as u32).unwrap_or(0);
         let value = match rng.below(10) {
-            0 => far(rng),
+            0 => far_out(rng),
             1 => over,
             2 => over.wrapping_sub(1),
             3 => over.wrapping_add(rng.below(5)),

@@ -65,7 +65,8 @@ enum {
     FERRYSPRIG_ANSWER_CPL_BLOCKS = 10,       /* how many blocks use coupling */
     FERRYSPRIG_ANSWER_BLOCK_STARTS = 11,     /* 11 to 16: the bits at which the six blocks start */
     FERRYSPRIG_ANSWER_MANTISSA_STARTS = 17,  /* 17 to 22: the bits at which their mantissas start */
-    FERRYSPRIG_ANSWER_COORDINATES_SENT = 23, /* whether all coupled channels sent theirs in the first coupled block; yes if there is none */
+    FERRYSPRIG_ANSWER_COORDINATES_SENT = 23, /* whether in every block each coupled channel has cplcoe 1, or had it in an earlier block
+                                                while it was coupled; yes if no block uses coupling */
     FERRYSPRIG_ANSWER_NAME = 24,             /* at refusal 6 the name of the field, span or mantissas that did not fit the frame; else 0 */
     FERRYSPRIG_ANSWER_BLOCK = 25             /* and its block, -1 in the header; else -1 */
 };

@@ -14,6 +14,7 @@ WALK = '''            conventional(cur, &bap[ch], 0, endmant[ch], &mut g)?;
                 got_cpl = true;
             }
 '''
+SENT = '                coordinates_sent &= !chincpl[ch] || had_coordinates[ch];\n'
 RECORD = '        let at = ROW * self.count;\n'
 READ = '        self.check(width, name, name)?;\n        let (block, pos)'
 SLIPS = [  # what, file, old, new
@@ -32,7 +33,12 @@ SLIPS = [  # what, file, old, new
     ('the place counted in positions', MOD, '    let verdict = ac3::parse(&mut cur);', '    let verdict = ac3::parse(&mut cur);\n    cur.pos += if verdict.is_err() { place.min(1) } else { 0 };'),
     ('programme of dynrng2 is 0', 'src/names.rs', 'Role::Dynrng(p) => (10, i32::from(p))', 'Role::Dynrng(_) => (10, 0)'),
     ('index of coupling delta segments is 0', MOD, '            index,\n', '            index: if name == "cpldeltoffst" { 0 } else { index },\n'),
-    ('coordinates judged in the last coupled block', CUT, 'if cpl_blocks == 1 {', 'if cpl_blocks >= 1 {'),
+    ('coordinates judged in the first coupled block alone', CUT, SENT, SENT.replace('!chincpl', 'cpl_blocks > 1 || !chincpl')),
+    ('coordinates judged in the last coupled block alone', CUT, SENT, '                coordinates_sent = (ch == 0 || coordinates_sent) && (!chincpl[ch] || had_coordinates[ch]);\n'),
+    ('coordinates to be sent in every block', CUT, SENT, SENT.replace('had_coordinates', 'cplcoe')),
+    ('coordinates forgotten as a channel leaves', CUT, SENT, '                had_coordinates[ch] &= chincpl[ch];\n' + SENT),
+    ('coordinates forgotten in a pause', CUT, UNCOUPLED, UNCOUPLED.replace('false;', 'false;\n                had_coordinates = [false; 5];')),
+    ('coordinates asked of channels that are not coupled', CUT, SENT, SENT.replace('!chincpl[ch] || ', '')),
     ('blocks with a new strategy counted', CUT, '            cpl_blocks += 1;', '            cpl_blocks += usize::from(cplstre);'),
     # which band, group or segment
     ('bands counted from 1', CUT, 'cur.get_part("cplcoexp", ch, bnd, 4)', 'cur.get_part("cplcoexp", ch, bnd + 1, 4)'),

@@ -237,16 +237,38 @@ fn told_what_did_not_fit(ample: &Ample) -> Result<(), String> {
     same("what did not fit", got.unfit(), expected)
 }
 
-/// The summary's "coordinates sent", read off the rows of an accepted frame.
+/// The summary's "coordinates sent", read off the rows of an accepted frame, word for word: in every block each coupled channel has cplcoe
+/// 1 there, or had it in an earlier block while it was coupled. (cplinu and chincpl say which are coupled, as last sent.)
 fn coordinates_sent(rows: &[i32]) -> bool {
-    let (cplinu, cplcoe) = (names::number("cplinu"), names::number("cplcoe"));
-    let first_coupled = rows
-        .chunks(ROW)
-        .find(|row| row[row_at::NAME] == cplinu && row[row_at::VALUE] == 1)
-        .map(|row| row[row_at::BLOCK]);
-    rows.chunks(ROW)
-        .filter(|row| row[row_at::NAME] == cplcoe && Some(row[row_at::BLOCK]) == first_coupled)
-        .all(|row| row[row_at::VALUE] == 1)
+    let [cplinu, chincpl, cplcoe] = ["cplinu", "chincpl", "cplcoe"].map(names::number);
+    let flags = rows.chunks(ROW);
+    let flags = flags.filter(|r| [cplinu, chincpl, cplcoe].contains(&r[row_at::NAME]));
+    let flags: Vec<&[i32]> = flags.collect();
+    let of = |name: i32, block: i32| {
+        let named = flags.iter().filter(move |r| r[row_at::NAME] == name);
+        named.filter(move |r| r[row_at::BLOCK] == block)
+    };
+    let mut coupled = [[false; 5]; 6];
+    for block in 0..6 {
+        if block > 0 {
+            coupled[block] = coupled[block - 1];
+        }
+        for row in of(cplinu, block as i32) {
+            coupled[block] = [false; 5];
+            for flag in of(chincpl, block as i32) {
+                coupled[block][flag[row_at::INDEX] as usize] = flag[row_at::VALUE] == 1;
+            }
+            assert!(row[row_at::VALUE] == 1 || coupled[block] == [false; 5]);
+        }
+    }
+    let has = |block: usize, channel: usize| {
+        let sent = |row: &&[i32]| (row[row_at::INDEX], row[row_at::VALUE]) == (channel as i32, 1);
+        coupled[block][channel] && of(cplcoe, block as i32).any(sent)
+    };
+    (0..6).all(|block| {
+        let mut channels = (0..5).filter(|channel| coupled[block][*channel]);
+        channels.all(|channel| (0..=block).any(|earlier| has(earlier, channel)))
+    })
 }
 
 /// The answer with this room is the one with ample room, or refusal 7 where the rows end.

@@ -441,6 +441,16 @@ fn header() -> Vec<Corner> {
 }
 
 fn coupling_strategy() -> Vec<Corner> {
+    // Channels 0 to 2 coupled from block 0 on with coordinates, channel 3 from block 2 on.
+    let late = |cplcoe: u32| {
+        small(&|a| match (a.name, a.block, a.index) {
+            ("cplstre" | "cplinu", 2, _) | ("cplcoe", 0, _) => Some(1),
+            ("chincpl", 0, 3) => Some(0),
+            ("cplcoe", 2, 3) => Some(cplcoe),
+            ("chexpstr", 2, 3) => Some(3),
+            _ => coupled(6, 5, a),
+        })
+    };
     vec![
         corner(
             "cplstre-0",
@@ -512,12 +522,60 @@ fn coupling_strategy() -> Vec<Corner> {
         corner(
             "coordinates-of-a-late-channel",
             0,
+            late(0),
+            "channel 3 joins in block 2 with cplcoe 0: coordinates sent is no",
+        ),
+        corner(
+            "coordinates-of-a-late-channel-sent",
+            0,
+            late(1),
+            "the same with cplcoe 1: coordinates sent is yes",
+        ),
+        corner(
+            "coordinates-a-block-late",
+            0,
+            pair(5, |a| a.is("cplcoe", 1).then_some(1)),
+            "cplcoe 0 in the first coupled block and 1 in the next: coordinates sent is no",
+        ),
+        corner(
+            "coordinates-of-a-channel-that-comes-back",
+            0,
             trio(5, |a| match (a.name, a.block, a.index) {
-                ("cplcoe", 0, _) => Some(1),
-                ("chexpstr", 1, 2) => Some(3),
+                ("cplcoe", 0, _) | ("chincpl", 0, 2) => Some(1),
+                ("chincpl", 1, 2) => Some(0),
+                ("cplstre" | "cplinu", 2, _) => Some(1),
+                ("chexpstr", 1 | 2, 2) => Some(3),
                 _ => None,
             }),
-            "channel 2 joins in block 1 with cplcoe 0: coordinates sent is yes",
+            "channel 2 leaves in block 1 and comes back in block 2 with cplcoe 0: coordinates sent is yes",
+        ),
+        corner(
+            "coordinates-of-another-banding",
+            0,
+            pair(5, |a| match (a.name, a.block) {
+                ("cplcoe", 0) | ("cplstre" | "cplinu", 1) | ("cplbndstrc", 1) => Some(1),
+                ("cplendf", _) => Some(4),
+                _ => None,
+            }),
+            "two bands, merged into one in block 1 with cplcoe 0: the coordinates of block 0 count, coordinates sent is yes",
+        ),
+        corner(
+            "coordinates-two-programmes",
+            0,
+            small(&|a| match (a.name, a.block) {
+                ("cplcoe", 0) => Some(1),
+                _ => coupled(0, 5, a),
+            }),
+            "acmod 0, both channels with cplcoe 1 in block 0: coordinates sent is yes",
+        ),
+        corner(
+            "coordinates-of-one-programme",
+            0,
+            small(&|a| match (a.name, a.block, a.index) {
+                ("cplcoe", 0, 0) => Some(1),
+                _ => coupled(0, 5, a),
+            }),
+            "the same of channel 0 alone: coordinates sent is no",
         ),
         corner(
             "coordinates-through-pause",

@@ -8,7 +8,7 @@ use crate::names;
 use crate::tables::masktab;
 use std::collections::BTreeMap;
 
-pub const FEATURES: [&str; 26] = [
+pub const FEATURES: [&str; 28] = [
     "zero-width mantissas in some block",
     "zero-width mantissas in every block",
     "eight delta segments",
@@ -25,6 +25,8 @@ pub const FEATURES: [&str; 26] = [
     "coupling in some blocks only",
     "coordinates not sent",
     "a channel joins coupling after the first coupled block with cplcoe 0",
+    "a channel comes back to coupling with cplcoe 0, and had coordinates",
+    "coordinates of a late channel alone not sent",
     "channel exponents reused as the channel joins or leaves coupling, with the same end",
     "coupling exponents reused after a pause without coupling",
     "coupling in use, its fine offset and gain code never sent",
@@ -72,6 +74,7 @@ impl<'a> Rows<'a> {
 struct Channel {
     end: i32,
     coupled: bool,
+    had_coordinates: bool,
     bandwidth: i32,
     delta: bool,
 }
@@ -139,6 +142,11 @@ pub fn of(rows: &[i32], s: &Summary) -> Vec<i32> {
                 "a channel joins coupling after the first coupled block with cplcoe 0",
                 coupling.blocks > 0 && !was_coupled && b.value("cplcoe", ch) == Some(0),
             );
+            meet(
+                "a channel comes back to coupling with cplcoe 0, and had coordinates",
+                channel.had_coordinates && !was_coupled && b.value("cplcoe", ch) == Some(0),
+            );
+            channel.had_coordinates |= b.value("cplcoe", ch) == Some(1);
             channel.end = end;
             let code = b.value("deltbae", ch);
             meet(
@@ -268,6 +276,15 @@ pub fn of(rows: &[i32], s: &Summary) -> Vec<i32> {
         (1..6).contains(&s.cpl_blocks),
     );
     meet("coordinates not sent", !s.coordinates_sent);
+    let first_coupled = all.named("cplcoe").next().map(|r| r[row_at::BLOCK]);
+    meet(
+        "coordinates of a late channel alone not sent",
+        !s.coordinates_sent
+            && all
+                .named("cplcoe")
+                .filter(|r| Some(r[row_at::BLOCK]) == first_coupled)
+                .all(|r| r[row_at::VALUE] == 1),
+    );
     meet(
         "more rows than the listing program lends",
         s.rows > listing::ROWS,

@@ -332,8 +332,8 @@ pub fn say(goal: &Goal) -> String {
 }
 
 /// What docs/FORMAT.md asks to run and compare, by name; then each of the four flags missing in block 0, refusal 6 at each sort of
-/// element, in block 0 and in block 5, and the corner cases of parts.
-pub fn by_name() -> [(&'static str, Goal); 20] {
+/// element, in block 0 and in block 5, and the corner cases of parts and of coordinates.
+pub fn by_name() -> [(&'static str, Goal); 26] {
     let corners = corners::all();
     let corner = |name: &str| {
         let at = corners.iter().position(|corner| corner.name == name);
@@ -360,6 +360,27 @@ pub fn by_name() -> [(&'static str, Goal); 20] {
         ("D15 groups to the end", corner("groups-to-the-end")),
         ("eight segments in every slot", corner("segments-eight")),
         ("a room of 9 n + 8 numbers", corner("one-number-too-few")),
+        (
+            "channel 3 joins in block 2 with cplcoe 0",
+            corner("coordinates-of-a-late-channel"),
+        ),
+        (
+            "a channel comes back with cplcoe 0",
+            corner("coordinates-of-a-channel-that-comes-back"),
+        ),
+        (
+            "coupling off and on again",
+            corner("coordinates-through-pause"),
+        ),
+        (
+            "cplcoe 0 in the first coupled block, 1 in the next",
+            corner("coordinates-a-block-late"),
+        ),
+        ("no coupling at all", corner("plain")),
+        (
+            "coordinates with acmod 0",
+            corner("coordinates-two-programmes"),
+        ),
     ]
 }
 

@@ -59,7 +59,7 @@ const INDEXES: usize = 6;
 
 /// The parts that a frame's rows have by each rule; the rows' own are not looked at.
 pub fn told(rows: &[i32]) -> Vec<[i32; 2]> {
-    let mut block = NO_PART;
+    let mut block = -1;
     let mut met = [[Met::default(); INDEXES]; names::COUNT + 1];
     let mut told = Vec::with_capacity(rows.len() / ROW);
     for row in rows.chunks(ROW) {

@@ -113,23 +113,26 @@ fn the_published_tail_refuses() {
 }
 
 #[test]
-fn coordinates_sent_is_of_the_first_coupled_block() {
-    let mut judge = Judge::default();
-    let mut sent = |name: &str| {
-        let corner = all().into_iter().find(|c| c.name == name).expect(name);
+fn coordinates_sent_is_of_every_coupled_channel_in_every_block() {
+    let (mut judge, corners) = (Judge::default(), all());
+    for (name, sent, why) in [
+        ("plain", true, "no coupling at all"),
+        ("coordinates-never-sent", false, "no cplcoe is 1"),
+        ("coordinates-of-a-late-channel", false, "it joins with 0"),
+        ("coordinates-of-a-late-channel-sent", true, "with 1"),
+        ("coordinates-a-block-late", false, "1 comes too late"),
+        ("coordinates-of-a-channel-that-comes-back", true, "it had 1"),
+        ("coordinates-through-pause", true, "all had 1"),
+        ("coordinates-of-another-banding", true, "all had 1"),
+        ("coupling-two-programmes", false, "no cplcoe is 1"),
+        ("coordinates-two-programmes", true, "both have 1"),
+        ("coordinates-of-one-programme", false, "one has 0"),
+    ] {
+        let corner = corners.iter().find(|c| c.name == name).expect(name);
         let answer = judge.ample(&corner.capture, 0).answer;
-        answer.verdict.expect("accepted").coordinates_sent
-    };
-    assert!(sent("plain"), "no block uses coupling");
-    assert!(!sent("coordinates-never-sent"));
-    assert!(
-        sent("coordinates-of-a-late-channel"),
-        "only the first coupled block is looked at"
-    );
-    assert!(
-        sent("coordinates-through-pause"),
-        "nor is the one after a pause"
-    );
+        let summary = answer.verdict.expect("accepted");
+        assert_eq!(summary.coordinates_sent, sent, "{name}: {why}");
+    }
 }
 
 #[test]

@@ -28,7 +28,8 @@ pub struct Summary {
     pub block_starts: [usize; 6],
     /// Bit positions of each block's mantissas.
     pub mantissa_starts: [usize; 6],
-    /// Whether every coupled channel sent coordinates in the first block that uses coupling; yes where none does.
+    /// Whether in every block each coupled channel has cplcoe 1, or had it in an earlier block while it was coupled; yes where no block uses
+    /// coupling.
     pub coordinates_sent: bool,
 }
 

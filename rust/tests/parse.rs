@@ -127,6 +127,24 @@ fn bands_groups_and_segments_are_told() {
 }
 
 #[test]
+fn coordinates_are_asked_of_every_coupled_channel() {
+    for (case, sent) in [
+        ("plain", true),
+        ("coordinates-never-sent", false),
+        ("coordinates-of-a-late-channel", false),
+        ("coordinates-of-a-late-channel-sent", true),
+        ("coordinates-a-block-late", false),
+        ("coordinates-of-a-channel-that-comes-back", true),
+        ("coordinates-through-pause", true),
+        ("coordinates-two-programmes", true),
+        ("coordinates-of-one-programme", false),
+    ] {
+        let frame = parse(&corner_frame(case)).unwrap();
+        assert_eq!(frame.summary.coordinates_sent, sent, "{case}");
+    }
+}
+
+#[test]
 fn an_element_of_the_callers_has_no_part() {
     assert_eq!(first_fields()[0].part, None);
 }

@@ -1,5 +1,5 @@
--- The laws of `Counts`: of sequence, of what is there only under a test, of loops; and what a counted grammar writes on any input. A part of
--- a grammar that has all items of a key finds none before it, so it may count from 0. Assumes nothing.
+-- The laws of `Counts`: of sequence, of what is there only under a test, of loops; and what a counted grammar writes on any input. A part
+-- of a grammar that has all items of a key finds none before it, so it may count from 0. Assumes nothing.
 use mathlib.Core.Bool.{Bool, true, false, _&&_, _||_, not, cond}
 use mathlib.Core.List.{List, [], _∷_}
 use mathlib.Core.Path.{_≡_, refl, ap, sym, subst, _∙_}
@@ -9,10 +9,10 @@ use lib.Dec.{T, eqb, ltb, eqb→eq, lt→ltb, T-not}
 use Rattle.bits.proofs.Window.{value-lt}
 use Rattle.syntax.specs.declared.Item.{Item}
 use Rattle.syntax.specs.declared.Refusal.{Refusal}
-use Rattle.syntax.specs.Grammar.{Grammar, done, refuse, field, free, span, walk, frame, here, _>>=_, partOf, take, note, refuseIf, when, readIf, turns}
+use Rattle.syntax.specs.Grammar.{Grammar, done, _>>=_, partOf, take, note, refuseIf, when, readIf, turns}
 use Rattle.syntax.specs.Run.{Row, Spot, Check, clear, stop, Result, unless, run}
 use Rattle.ac3.specs.AtMost.{AtMost, a-done, a-refuse, a-field, a-free, a-span, a-walk, a-frame, a-here}
-use Rattle.ac3.specs.Counts.{Unparted, u-done, u-refuse, u-field, u-free, u-span, u-walk, u-frame, u-here, labelled, Right, after, Counts, c-done, c-refuse, c-field, c-free, c-span, c-walk, c-frame, c-here}
+use Rattle.ac3.specs.Counts.{Unparted, u-done, u-refuse, u-field, u-free, u-span, u-walk, u-frame, u-here, Right, after, Counts, c-done, c-refuse, c-field, c-free, c-span, c-walk, c-frame, c-here}
 use Rattle.ac3.specs.Marked.{among}
 use Rattle.ac3.specs.Parts.{parted, sameField}
 use Rattle.ac3.proofs.AtMost.{Any}

@@ -17,6 +17,7 @@ pub mod OneAnswer
 pub mod Example
 pub mod Tried
 pub mod Sent
+pub mod SentExample
 pub mod Start
 pub mod Told
 pub mod Apart

@@ -1,6 +1,6 @@
--- A row's part counts the rows before it of its name, block and index. In a block such rows stand in one loop, whose turns are numbered from 0
--- and have one of them each; and the loops of two blocks, two channels or two names are of different keys. Parts stay below 255, because
--- there are at most 18 bands, 84 groups and 8 segments. Assumes nothing.
+-- A row's part counts the rows before it of its name, block and index. In a block such rows stand in one loop, whose turns are numbered
+-- from 0 and have one of them each; and the loops of two blocks, two channels or two names are of different keys. Parts stay below 255,
+-- because there are at most 18 bands, 84 groups and 8 segments. Assumes nothing.
 use mathlib.Core.Bool.{Bool, true, false, _&&_, _||_, not, cond}
 use mathlib.Core.List.{List, [], _∷_, _++_}
 use mathlib.Core.Path.{_≡_, refl, ap, sym, subst, _∙_}
@@ -12,7 +12,7 @@ use lib.ListN.{length, getD, drop, replicate}
 use Rattle.tables.specs.Tables.{nfchans}
 use Rattle.syntax.specs.declared.Item.{Item}
 use Rattle.syntax.specs.declared.Refusal.{Refusal}
-use Rattle.syntax.specs.Grammar.{Grammar, _>>=_, _>>_, partOf, each}
+use Rattle.syntax.specs.Grammar.{Grammar, _>>=_, partOf, each}
 use Rattle.syntax.specs.Names as Name
 use Rattle.syntax.specs.Refusals.{noCouplingExponents, noChannelExponents, noLfeExponents}
 use Rattle.syntax.specs.Numbers.{rowWidth, shown, numbers}
@@ -30,21 +30,21 @@ use Rattle.slots.specs.declared.Curve.{Curve}
 use Rattle.slots.specs.declared.Deltas.{Deltas}
 use Rattle.slots.specs.declared.Offsets.{Offsets}
 use Rattle.slots.specs.declared.Strategies.{Strategies}
-use Rattle.exponents.specs.Exponents.{Unpacked, Exponents, groupCount, step, unpack, group, firstName, groupName, exponentIndex, exponentSet, slotExponents, channelExponents, exponents}
+use Rattle.exponents.specs.Exponents.{Unpacked, Exponents, groupCount, step, unpack, group, groupName, exponentIndex, exponentSet, slotExponents, channelExponents, exponents}
 use Rattle.mantissas.specs.Mantissas.{mantissas}
 use Rattle.channels.specs.Coupling.{coupledChannels, joined, couplingBands, newCoupling, couplingStrategy, coordinate, channelCoordinates, phaseFlags, couplingCoordinates, rematrixing}
 use Rattle.channels.specs.Sound.{SoundBandwidths}
 use Rattle.channels.specs.Strategies.{channelStrategies, exponentStrategies, bandwidth, bandwidths, channelEnd, channelEnds}
 use Rattle.channels.specs.declared.Bandwidths.{Bandwidths}
 use Rattle.ac3.specs.AudioBlock.{Carry, channelFlags, dynamicRange, channelSettings, couplingSection, exponentSection, skipField, allocState, audioBlock}
-use Rattle.ac3.specs.Counts.{Right, labelled, Unparted, u-done, u-field, u-here}
+use Rattle.ac3.specs.Counts.{labelled, Unparted, u-done, u-field, u-here}
 use Rattle.ac3.specs.Frame.{unread, audio, syncframe}
 use Rattle.ac3.specs.Marked.{among}
 use Rattle.ac3.specs.Parts.{parted, sameField, alike, PartFits, PartsFit, PartsOfRows, same, sameFront, alikeIn, number, fromRow, hasPart, partAt, alikeBefore, PartsOfRooms}
 use Rattle.ac3.specs.Promise.{Call, input, roomFor, listed, answerTo}
 use Rattle.ac3.specs.Rooms.{said, rowCount}
 use Rattle.ac3.proofs.AtMost.{Any, reading}
-use Rattle.ac3.proofs.Counts.{u-turns, u-if, u-when, u-read, u-for, plainly, and-first, and-second, Tallied, t-widen, t-done, t-seq, t-read, t-when, t-turns, Turn, is, turn-take, turn-note, turn-seq, turn-end, t-parts, t-quiet, t-before, t-known, t-after, Numbered, numbered-run}
+use Rattle.ac3.proofs.Counts.{u-turns, plainly, and-first, and-second, Tallied, t-widen, t-done, t-seq, t-read, t-when, t-turns, Turn, is, turn-take, turn-note, turn-seq, turn-end, t-parts, t-quiet, t-before, t-known, t-after, Numbered, numbered-run}
 use Rattle.ac3.proofs.Promise.{promised}
 use Rattle.ac3.proofs.RowBound.{Ranged, Ending, Bounded, groupsMost, five-or-fewer, a-strategy, a-bandwidths, a-ends, channel-groups, coupling-groups, begins}
 
@@ -151,7 +151,8 @@ record Found (key : Item) (blk at called : ℕ) : Type 0 where
   pub block : key .block ≡ blk
   pub index : key .index ≡ at
 
--- the key is of this block, and of a name from the first to the last of these
+-- The key is of this block, and of a name from the first to the last of these. Names are numbered in the order of parsing: those of
+-- coordinates are 64 and 65, those of groups 74 to 79, those of segments 101 to 107.
 record Own (key : Item) (blk first last : ℕ) : Type 0 where
   pub block : key .block ≡ blk
   pub low : first ≤ key .name

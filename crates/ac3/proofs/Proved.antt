@@ -15,6 +15,7 @@ use Rattle.ac3.proofs.Parts.{parts-of-rows, parts-of-rooms}
 use Rattle.ac3.proofs.Promise.{promised, reaches, answers-demand3}
 use Rattle.ac3.proofs.Rooms.{spans-by-role, rooms-demand3}
 use Rattle.ac3.proofs.RowBound.{row-bound}
+use Rattle.ac3.proofs.Sent.{sent-is-each-had}
 use Rattle.ac3.proofs.Unfitting.{what-did-not-fit}
 use Rattle.ac3.proofs.Useless.{none-useless}
 use Rattle.ac3.proofs.Values.{values-on-each-side}
@@ -35,6 +36,7 @@ proved =
       edit-freely = edit-freely;
       later-bytes = later-bytes;
       only-what-was-read = only-what-was-read syncframe;
+      sent-is-each-had = sent-is-each-had;
       coordinates-idle = coordinates-idle;
       header-and-blocks = header-and-blocks;
       parts = parts-of-rooms;

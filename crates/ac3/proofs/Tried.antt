@@ -18,9 +18,10 @@ use Rattle.mantissas.specs.Parts.{channelParts, parts}
 use Rattle.header.specs.Header.{syncinfo, programmeInfo, alternateInfo, timeCodes, additionalInfo, bsi, header}
 use Rattle.channels.specs.Coupling.{howMany, coupledChannels, joined, couplingBands, newCoupling, couplingStrategy, coordinate, channelCoordinates, phaseFlags, couplingCoordinates, rematrixing}
 use Rattle.channels.specs.Strategies.{channelStrategies, exponentStrategies, bandwidth, bandwidths, channelEnd, channelEnds}
-use Rattle.ac3.specs.AudioBlock.{channelFlags, dynamicRange, channelSettings, couplingSection, exponentSection, skipField, allocState, allSent, audioBlock}
+use Rattle.ac3.specs.AudioBlock.{channelFlags, dynamicRange, channelSettings, couplingSection, exponentSection, skipField, allocState, audioBlock}
 use Rattle.ac3.specs.Frame.{audio, syncframe, answered}
 use Rattle.ac3.specs.Listing.{bytes, plusOne, checksum, verdict, short}
+use Rattle.ac3.specs.Sent.{every, some, coordinatesSent}
 use Rattle.ac3.specs.Listing.{listing}
 
 -- ffmpeg, 2/0, 48 kHz, coupling in every block
@@ -195,6 +196,36 @@ abbrev segments-eight : List ℕ
 segments-eight =
     bytes 64 0x0b7700000440e0000000fe400fff07c0f9f3e7cf807cf9f3e7c03e7cf9f3e01f3e7cf9f00f9f3e7cf88008000000000002aabc00022444866c890ab4cd8eff80
     ++ bytes 64 0x00448890cd91215699b1dff00008911219b2242ad3363bfe00011222433644855a66c77fc00022444866c890ab4cd8eff8000448890cd91215699b1df8000000
+    ++ bytes 64 0x00000000000000000000000000000000000000000000000000000000000000000000000000000000000000000000000000000000000000000000000000000000
+
+-- channel 3 joins coupling in block 2 with cplcoe 0: coordinates not sent
+abbrev late-channel : List ℕ
+late-channel =
+    bytes 64 0x0b7700000040c000000f94e00400801ff800f81f3e7cf9f3e7cf807cf9f3e7cf9f3e01f3e7cf9f3e7cf807cf9f3e7cf8800800000000000000000003f53000c1
+    ++ bytes 64 0xf3e7cf9f3e7cf8000000000000000000000000000000000000000000000000000000000000000000000000000000000000000000000000000000000000000000
+
+-- a channel leaves coupling and comes back with cplcoe 0: coordinates sent
+abbrev comes-back : List ℕ
+comes-back =
+    bytes 64 0x0b77000000406000003ea700200400ff07c0f9f3e7cf9f3e7c03e7cf9f3e7cf9f00f9f3e7cf9f3e7c400400000000003ca601800f9f3e7cf9f0001f530060f9f
+    ++ bytes 64 0x3e7cf9f3e7c000000000000000000000000000000000000000000000000000000000000000000000000000000000000000000000000000000000000000000000
+
+-- coupling off and on again, with cplcoe 0: coordinates sent
+abbrev off-and-on : List ℕ
+off-and-on =
+    bytes 64 0x0b7700000040400000f18c008010fc1f03e7cf9f3e7c03e7cf9f3e7c4004000000004f00007cf9f3e7cf807cf9f3e7cf80078c40000000000000000000000000
+    ++ bytes 64 0x00000000000000000000000000000000000000000000000000000000000000000000000000000000000000000000000000000000000000000000000000000000
+
+-- cplcoe 0 in the first coupled block and 1 in the next: coordinates not sent
+abbrev a-block-late : List ℕ
+a-block-late =
+    bytes 64 0x0b7700000040400000f2990fc1f03e7cf9f3e7cf9f00f9f3e7cf9f3e7c4004000000002004000000000000000000000000000000000000000000000000000000
+    ++ bytes 64 0x00000000000000000000000000000000000000000000000000000000000000000000000000000000000000000000000000000000000000000000000000000000
+
+-- acmod 0, coordinates sent
+abbrev programmes-coupled : List ℕ
+programmes-coupled =
+    bytes 64 0x0b770000004000000001ea7002007e0f81f3e7cf9f3e7cf807cf9f3e7cf9f3e20020000000000000000000000000000000000000000000000000000000000000
     ++ bytes 64 0x00000000000000000000000000000000000000000000000000000000000000000000000000000000000000000000000000000000000000000000000000000000
 
 -- the example of docs/FORMAT.md
@@ -412,8 +443,13 @@ accepted :
     × (listing 1820 bands-one ≡ 198 ∷ 460 ∷ 1522623281577177158 ∷ 0 ∷ 128 ∷ 8 ∷ 2 ∷ 0 ∷ 0 ∷ 6 ∷ 67 ∷ 360 ∷ 380 ∷ 400 ∷ 420 ∷ 440 ∷ 360 ∷ 380 ∷ 400 ∷ 420 ∷ 440 ∷ 460 ∷ 1 ∷ [])
     × (listing 1820 groups-to-the-end ≡ 374 ∷ 1598 ∷ 577431730805009659 ∷ 0 ∷ 256 ∷ 8 ∷ 3 ∷ 1 ∷ 0 ∷ 6 ∷ 67 ∷ 1478 ∷ 1502 ∷ 1526 ∷ 1550 ∷ 1574 ∷ 1478 ∷ 1502 ∷ 1526 ∷ 1550 ∷ 1574 ∷ 1598 ∷ 0 ∷ [])
     × (listing 1820 segments-eight ≡ 412 ∷ 1168 ∷ 965782024263992707 ∷ 0 ∷ 192 ∷ 8 ∷ 7 ∷ 0 ∷ 0 ∷ 6 ∷ 69 ∷ 998 ∷ 1032 ∷ 1066 ∷ 1100 ∷ 1134 ∷ 998 ∷ 1032 ∷ 1066 ∷ 1100 ∷ 1134 ∷ 1168 ∷ 0 ∷ [])
-unfolding bitAt value bitsBefore sameBits rangeEq _>>=_ turns shown except exec andThen flatten landing finish roomCheck check sum unless run continue nfchans words48 words44 words32 frameBytes slowDecay fastDecay slowGain knee floor fastGain bandEnd logAdd hearing bap bapBits from placed snrOffset psdOf mappedPsd logadd bandSum bandOf startOf endOf bandPsd integratedPsd lowcomp lowAfter rises startLeak fallTo fallBy fallLeak leakStep excitations excitation overKnee maskOf maskingCurve deltaOf passed deltaIn deltaSum deltaApplied kept threshold thresholds addressOf bapOf Allocation-pointers allocation deltaCode channelCode segment newDeltas slotDeltas codedDeltas deltas newCurve curve fineOffset channelOffset newOffsets offsets newLeak couplingLeak step unpack group exponentSet slotExponents channelExponents exponents silent Mantissas-pointers allPointers widths mantissas channelParts parts syncinfo programmeInfo alternateInfo timeCodes additionalInfo bsi header howMany coupledChannels joined couplingBands newCoupling couplingStrategy coordinate channelCoordinates phaseFlags couplingCoordinates rematrixing channelStrategies exponentStrategies bandwidth bandwidths channelEnd channelEnds channelFlags dynamicRange channelSettings couplingSection exponentSection skipField allocState allSent audioBlock audio syncframe answered bytes plusOne checksum verdict short
-accepted = (refl, refl, refl, refl, refl, refl, refl, refl, refl, refl, refl, refl, refl, refl, refl, refl, refl, refl, refl, refl, refl, refl, refl, refl, refl)
+    × (listing 1820 late-channel ≡ 256 ∷ 660 ∷ 2189947234466581002 ∷ 0 ∷ 128 ∷ 8 ∷ 6 ∷ 0 ∷ 0 ∷ 6 ∷ 67 ∷ 441 ∷ 469 ∷ 573 ∷ 602 ∷ 631 ∷ 441 ∷ 469 ∷ 573 ∷ 602 ∷ 631 ∷ 660 ∷ 0 ∷ [])
+    × (listing 1820 comes-back ≡ 235 ∷ 634 ∷ 1843704781168628010 ∷ 0 ∷ 128 ∷ 8 ∷ 3 ∷ 0 ∷ 0 ∷ 6 ∷ 67 ∷ 375 ∷ 464 ∷ 562 ∷ 586 ∷ 610 ∷ 375 ∷ 464 ∷ 562 ∷ 586 ∷ 610 ∷ 634 ∷ 1 ∷ [])
+    × (listing 1820 off-and-on ≡ 193 ∷ 484 ∷ 1316331983646767939 ∷ 0 ∷ 128 ∷ 8 ∷ 2 ∷ 0 ∷ 0 ∷ 5 ∷ 67 ∷ 268 ∷ 392 ∷ 424 ∷ 444 ∷ 464 ∷ 268 ∷ 392 ∷ 424 ∷ 444 ∷ 464 ∷ 484 ∷ 1 ∷ [])
+    × (listing 1820 a-block-late ≡ 176 ∷ 396 ∷ 804892608931913972 ∷ 0 ∷ 128 ∷ 8 ∷ 2 ∷ 0 ∷ 0 ∷ 6 ∷ 67 ∷ 276 ∷ 316 ∷ 336 ∷ 356 ∷ 376 ∷ 276 ∷ 316 ∷ 336 ∷ 356 ∷ 376 ∷ 396 ∷ 0 ∷ [])
+    × (listing 1820 programmes-coupled ≡ 174 ∷ 397 ∷ 1943488180946144133 ∷ 0 ∷ 128 ∷ 8 ∷ 0 ∷ 0 ∷ 0 ∷ 6 ∷ 73 ∷ 297 ∷ 317 ∷ 337 ∷ 357 ∷ 377 ∷ 297 ∷ 317 ∷ 337 ∷ 357 ∷ 377 ∷ 397 ∷ 1 ∷ [])
+unfolding bitAt value bitsBefore sameBits rangeEq _>>=_ turns shown except exec andThen flatten landing finish roomCheck check sum unless run continue nfchans words48 words44 words32 frameBytes slowDecay fastDecay slowGain knee floor fastGain bandEnd logAdd hearing bap bapBits from placed snrOffset psdOf mappedPsd logadd bandSum bandOf startOf endOf bandPsd integratedPsd lowcomp lowAfter rises startLeak fallTo fallBy fallLeak leakStep excitations excitation overKnee maskOf maskingCurve deltaOf passed deltaIn deltaSum deltaApplied kept threshold thresholds addressOf bapOf Allocation-pointers allocation deltaCode channelCode segment newDeltas slotDeltas codedDeltas deltas newCurve curve fineOffset channelOffset newOffsets offsets newLeak couplingLeak step unpack group exponentSet slotExponents channelExponents exponents silent Mantissas-pointers allPointers widths mantissas channelParts parts syncinfo programmeInfo alternateInfo timeCodes additionalInfo bsi header howMany coupledChannels joined couplingBands newCoupling couplingStrategy coordinate channelCoordinates phaseFlags couplingCoordinates rematrixing channelStrategies exponentStrategies bandwidth bandwidths channelEnd channelEnds channelFlags dynamicRange channelSettings couplingSection exponentSection skipField allocState audioBlock audio syncframe answered bytes plusOne checksum verdict short every some coordinatesSent
+accepted = (refl, refl, refl, refl, refl, refl, refl, refl, refl, refl, refl, refl, refl, refl, refl, refl, refl, refl, refl, refl, refl, refl, refl, refl, refl, refl, refl, refl, refl, refl)
 
 refused :
     (listing 1820 fscod-3 ≡ 4 ∷ 40 ∷ 2008319515514683955 ∷ 3 ∷ 0 ∷ 0 ∷ [])
@@ -448,5 +484,5 @@ refused :
     × (listing 1820 refusal-21 ≡ 26 ∷ 75 ∷ 1681950038189532974 ∷ 21 ∷ 0 ∷ 0 ∷ [])
     × (listing 1820 refusal-22 ≡ 33 ∷ 127 ∷ 1780880590504274166 ∷ 22 ∷ 0 ∷ 0 ∷ [])
     × (listing 1820 refusal-23 ≡ 40 ∷ 146 ∷ 2001894335952279341 ∷ 23 ∷ 0 ∷ 0 ∷ [])
-unfolding bitAt value bitsBefore sameBits rangeEq _>>=_ turns shown except exec andThen flatten landing finish roomCheck check sum unless run continue nfchans words48 words44 words32 frameBytes slowDecay fastDecay slowGain knee floor fastGain bandEnd logAdd hearing bap bapBits from placed snrOffset psdOf mappedPsd logadd bandSum bandOf startOf endOf bandPsd integratedPsd lowcomp lowAfter rises startLeak fallTo fallBy fallLeak leakStep excitations excitation overKnee maskOf maskingCurve deltaOf passed deltaIn deltaSum deltaApplied kept threshold thresholds addressOf bapOf Allocation-pointers allocation deltaCode channelCode segment newDeltas slotDeltas codedDeltas deltas newCurve curve fineOffset channelOffset newOffsets offsets newLeak couplingLeak step unpack group exponentSet slotExponents channelExponents exponents silent Mantissas-pointers allPointers widths mantissas channelParts parts syncinfo programmeInfo alternateInfo timeCodes additionalInfo bsi header howMany coupledChannels joined couplingBands newCoupling couplingStrategy coordinate channelCoordinates phaseFlags couplingCoordinates rematrixing channelStrategies exponentStrategies bandwidth bandwidths channelEnd channelEnds channelFlags dynamicRange channelSettings couplingSection exponentSection skipField allocState allSent audioBlock audio syncframe answered bytes plusOne checksum verdict short
+unfolding bitAt value bitsBefore sameBits rangeEq _>>=_ turns shown except exec andThen flatten landing finish roomCheck check sum unless run continue nfchans words48 words44 words32 frameBytes slowDecay fastDecay slowGain knee floor fastGain bandEnd logAdd hearing bap bapBits from placed snrOffset psdOf mappedPsd logadd bandSum bandOf startOf endOf bandPsd integratedPsd lowcomp lowAfter rises startLeak fallTo fallBy fallLeak leakStep excitations excitation overKnee maskOf maskingCurve deltaOf passed deltaIn deltaSum deltaApplied kept threshold thresholds addressOf bapOf Allocation-pointers allocation deltaCode channelCode segment newDeltas slotDeltas codedDeltas deltas newCurve curve fineOffset channelOffset newOffsets offsets newLeak couplingLeak step unpack group exponentSet slotExponents channelExponents exponents silent Mantissas-pointers allPointers widths mantissas channelParts parts syncinfo programmeInfo alternateInfo timeCodes additionalInfo bsi header howMany coupledChannels joined couplingBands newCoupling couplingStrategy coordinate channelCoordinates phaseFlags couplingCoordinates rematrixing channelStrategies exponentStrategies bandwidth bandwidths channelEnd channelEnds channelFlags dynamicRange channelSettings couplingSection exponentSection skipField allocState audioBlock audio syncframe answered bytes plusOne checksum verdict short every some coordinatesSent
 refused = (refl, refl, refl, refl, refl, refl, refl, refl, refl, refl, refl, refl, refl, refl, refl, refl, refl, refl, refl, refl, refl, refl, refl, refl, refl, refl, refl, refl, refl, refl, refl, refl)

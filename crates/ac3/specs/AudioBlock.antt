@@ -1,8 +1,7 @@
 -- audblk (4.3.3): the sections of a block in the order of the syntax table.
-use mathlib.Core.Bool.{Bool, true, false, _&&_, _||_, not, cond}
-use mathlib.Core.List.{List, [], _∷_}
+use mathlib.Core.Bool.{Bool, cond}
+use mathlib.Core.List.{List, [], _∷_, _++_}
 use Prim.Native.Nat.{ℕ, _+_, _*_}
-use lib.Dec.{eqb}
 use lib.IntN.{ℤ}
 use lib.ListN.{set}
 use Rattle.tables.specs.Tables.{nfchans}
@@ -21,14 +20,17 @@ use Rattle.mantissas.specs.Mantissas.{mantissas}
 use Rattle.channels.specs.Coupling.{couplingStrategy, couplingCoordinates, rematrixing}
 use Rattle.channels.specs.Strategies.{exponentStrategies, bandwidths, channelEnds}
 use Rattle.channels.specs.declared.Bandwidths.{Bandwidths}
+use Rattle.ac3.specs.Sent.{Sending, coordinatesSent}
 use Rattle.ac3.specs.declared.State.{State}
 use Rattle.ac3.specs.declared.Tally.{Tally}
 
--- what a block takes from the blocks before it, and leaves to the next one
+-- what a block takes from the blocks before it, and leaves to the next one: what is in force, what the summary tells so far, and for that
+-- what each block sent of coordinates
 pub record Carry : Type 0 where
   pub state : State
   pub exps : List (List ℤ)
   pub tally : Tally
+  pub blocks : List Sending
 
 -- blksw, and dithflag: a bit for each channel
 unfoldable pub channelFlags : (blk name nfchans : ℕ) → Grammar (Unit {0})
@@ -93,18 +95,12 @@ allocState blk nfchans cplinu lfeon old = do
   deltas ← deltas blk nfchans cplinu (old .deltas)
   done (record { curve = curve; offsets = offsets; leak = leak; deltas = deltas })
 
--- every coupled channel sent coordinates
-unfoldable pub allSent : (chincpl cplcoe : List Bool) → Bool
-allSent [] sent = true
-allSent (c ∷ cs) [] = true
-allSent (c ∷ cs) (s ∷ ss) = (not c || s) && allSent cs ss
-
--- the first block with coupling decides whether coordinates were sent
+-- one block more in the tally, with which coordinates are sent so far or not
 abbrev pub counted : (blk start mantissas : ℕ) (cplinu sent : Bool) → Tally → Tally
 counted blk start mantissas cplinu sent t =
     record {
       coupled = cond cplinu (t .coupled + 1) (t .coupled);
-      coordinates = cond (cplinu && eqb (t .coupled) 0) sent (t .coordinates);
+      coordinates = sent;
       starts = set (t .starts) blk start;
       mantissas = set (t .mantissas) blk mantissas;
     }
@@ -121,8 +117,10 @@ audioBlock h blk before = do
   alloc ← allocState blk channels (c .cplinu) (h .lfeon) (old .alloc)
   skipField blk
   mantissas ← mantissas blk (h .fscod) channels (h .lfeon) c (x .ends) alloc (x .exponents .exps)
+  let blocks = before .blocks ++ record { chincpl = c .chincpl; cplcoe = cpl .cplcoe } ∷ []
   done (record {
     state = record { coupling = c; bandwidths = x .bandwidths; cover = x .exponents .cover; alloc = alloc };
     exps = x .exponents .exps;
-    tally = counted blk start mantissas (c .cplinu) (allSent (c .chincpl) (cpl .cplcoe)) (before .tally);
+    tally = counted blk start mantissas (c .cplinu) (coordinatesSent blocks) (before .tally);
+    blocks = blocks;
   })

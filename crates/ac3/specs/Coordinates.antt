@@ -20,7 +20,7 @@ abbrev pub flagged : Bool → Tally → Tally
 flagged b t = record { coupled = t .coupled; coordinates = b; starts = t .starts; mantissas = t .mantissas }
 
 abbrev pub flaggedCarry : Bool → Carry → Carry
-flaggedCarry b c = record { state = c .state; exps = c .exps; tally = flagged b (c .tally) }
+flaggedCarry b c = record { state = c .state; exps = c .exps; tally = flagged b (c .tally); blocks = c .blocks }
 
 abbrev pub flaggedAnswer : Bool → Answer → Answer
 flaggedAnswer b a =
@@ -34,11 +34,12 @@ flaggedAnswer b a =
       summary = record { rows = s .rows; end = s .end; header = s .header; tally = flagged b (s .tally) };
     }
 
--- any rule that makes the flag after a block: of the block's number and of what is carried before it and after it
+-- any rule that makes the flag after a block: of the block's number and of what is carried before it and after it, so of the coupled
+-- channels and cplcoe of every block so far
 abbrev pub Rule : Type 0
 Rule = (blk : ℕ) (before next : Carry) → Bool
 
--- a frame whose flag is made by the rule, after each block, and not by the standard's
+-- a frame whose flag is made by the rule, after each block, and not by the definition's
 module _ (rule : Rule) where
   unfoldable pub blockBy : Header → ℕ → Carry → Grammar Carry
   blockBy h blk before = do

@@ -33,7 +33,8 @@ Right key n i = T (labelled i) × (T (sameField key i) → i .part ≡ n)
 abbrev pub after : (key : Item) (n : ℕ) → Item → ℕ
 after key n i = cond (sameField key i) (n + 1) n
 
--- after n items of the key every item that the grammar can meet is right, and what is answered, with how many there are then, has a property
+-- After n items of the key every item that the grammar can meet is right; and what is answered, with how many there are then, has a
+-- property.
 pub data Counts {A : Type 0} (key : Item) (Q : A → ℕ → Type 0) : ℕ → Grammar A → Type 0 where
   c-done : {n : ℕ} {a : A} → Q a n → Counts key Q n (done a)
   c-refuse : {n : ℕ} {x : Refusal} → Counts key Q n (refuse x)

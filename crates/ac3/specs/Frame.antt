@@ -1,6 +1,6 @@
 -- A frame up to the end of its audio: the header and six blocks; and the answer to a call.
 use mathlib.Core.Bool.{true, false}
-use mathlib.Core.List.{List}
+use mathlib.Core.List.{List, []}
 use Prim.Native.Nat.{ℕ}
 use lib.IntN.{ℤ, pos}
 use lib.ListN.{replicate, drop}
@@ -32,12 +32,12 @@ unsent =
       };
     }
 
--- "coordinates sent" is yes where no block uses coupling
+-- "coordinates sent" is yes until a block says otherwise
 abbrev pub uncounted : Tally
 uncounted = record { coupled = 0; coordinates = true; starts = replicate 6 0; mantissas = replicate 6 0 }
 
 abbrev pub unread : Carry
-unread = record { state = unsent; exps = replicate 7 (replicate 256 (pos 0)); tally = uncounted }
+unread = record { state = unsent; exps = replicate 7 (replicate 256 (pos 0)); tally = uncounted; blocks = [] }
 
 -- the frame's answer
 pub record Audio : Type 0 where

@@ -1,3 +1,4 @@
+pub mod Sent
 pub mod AudioBlock
 pub mod Frame
 pub mod Marked
@@ -18,5 +19,6 @@ pub mod Editing
 pub mod Apart
 pub mod Later
 pub mod Sound
+pub mod Tallied
 pub mod Listing
 pub mod Proved

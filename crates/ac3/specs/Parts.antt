@@ -1,6 +1,6 @@
--- What the ninth number of a row means: its part. Rows of one name, block and index are numbered from 0 in the order in which they stand. So
--- in each block the bands of a channel's coordinates are 0, 1, 2 and so on without a gap, and so are the groups of a set of exponents and
--- the segments of a slot. A row with any other name has no part.
+-- What the ninth number of a row means: its part. Rows of one name, block and index are numbered from 0 in the order in which they stand.
+-- So in each block the bands of a channel's coordinates are 0, 1, 2 and so on without a gap, and so are the groups of a set of exponents
+-- and the segments of a slot. A row with any other name has no part.
 use mathlib.Core.Bool.{Bool, false, _&&_, cond}
 use mathlib.Core.List.{List, [], _∷_}
 use mathlib.Core.Logic.{_↔_}

@@ -18,6 +18,7 @@ use Rattle.ac3.specs.Parts.{PartsOfRows, PartsOfRooms}
 use Rattle.ac3.specs.Promise.{Call, Promised, listed, bitOf, answerTo, Accepted, Demand3OfAnswers}
 use Rattle.ac3.specs.Rooms.{SpansByRole, Demand3OfRooms}
 use Rattle.ac3.specs.RowBound.{RowBound}
+use Rattle.ac3.specs.Sent.{SentIsEachHad}
 use Rattle.ac3.specs.Unfitting.{WhatDidNotFit}
 use Rattle.ac3.specs.Useless.{NoneUseless}
 use Rattle.ac3.specs.Values.{ValuesOnEachSide}
@@ -56,7 +57,10 @@ pub record Proved : Type 1 where
   -- Bytes that come later change refusals 1 and 4 only; bits from the one reached on change nothing, accepted or not.
   pub later-bytes : LaterBytes
   pub only-what-was-read : OnlyWhatWasRead syncframe
-  -- "Coordinates sent" decides nothing: by whatever rule it is made, all else of every answer is the same.
+  -- "Coordinates sent" says of each block and each channel that is coupled there that it has cplcoe 1 in it, or had it in an earlier block
+  -- while it was coupled; and no less.
+  pub sent-is-each-had : SentIsEachHad
+  -- It decides nothing: by whatever rule of the blocks it is made, all else of every answer is the same.
   pub coordinates-idle : CoordinatesIdle
   -- The header first and then the blocks is the whole parse, and the blocks take exactly the header's own answer.
   pub header-and-blocks : HeaderAndBlocks

@@ -64,7 +64,7 @@ fn unsent() -> State
     }
 }
 
-// "Coordinates sent" is yes where no block uses coupling.
+// "Coordinates sent" is yes until a block says otherwise.
 fn uncounted() -> Tally
     ensures { λ r. ⌜ r ≡ grammar.uncounted ⌝ }
 {
@@ -90,6 +90,7 @@ pub fn audio(s: &[u8], rows: &mut [i32], c: Cursor, header: Header) -> AudioRead
     let mut memos = [[0u32; 16]; 7];
     let mut state = unsent();
     let mut tally = uncounted();
+    let mut had = [false; 5];
     let mut cursor = c;
     for blk in 0..6 {
         if cursor.stop.number != 0 {
@@ -105,9 +106,11 @@ pub fn audio(s: &[u8], rows: &mut [i32], c: Cursor, header: Header) -> AudioRead
             blk,
             state,
             tally,
+            had,
         );
         state = block.state;
         tally = block.tally;
+        had = block.had;
         cursor = block.cursor;
     }
     AudioRead { tally, cursor }

@@ -33,21 +33,23 @@ use syntax::readers::flag;
 use syntax::readers::pass;
 use syntax::readers::take;
 use tables::nfchans;
-ghost use mathlib.Core.Bool.{cond, _&&_};
-ghost use mathlib.Core.List.{List};
+ghost use mathlib.Core.Bool.{false, cond, _&&_, _||_};
+ghost use mathlib.Core.List.{List, [], _∷_, _++_};
 ghost use mathlib.Core.Path.{_≡_};
 ghost use Prim.Native.Nat.{ℕ, _+_, _<_, _≤_};
 ghost use Rattle.syntax.specs.Grammar as syntax;
 ghost use Rattle.syntax.specs.Reads.{Reads};
 ghost use Rattle.header.specs.Header as header;
 ghost use Rattle.header.specs.Sound.{SoundHeader};
-ghost use lib.Dec.{eqb};
+ghost use lib.ListN.{getD};
 ghost use Rattle.slots.specs.Sound.{SoundAlloc, SoundCoupling, SoundEnds, SoundExps};
 ghost use Rattle.slots.specs.Reused.{Keeps, ReusedBy};
 ghost use Rattle.channels.specs.Sound.{SoundBands, SoundBandwidths};
 ghost use Rattle.mantissas.specs.Kept.{Kept};
 ghost use Rattle.ac3.specs.AudioBlock as grammar;
+ghost use Rattle.ac3.specs.Sent.{Sending, eachCoupled};
 ghost use Rattle.ac3.specs.Sound.{SoundState};
+ghost use Rattle.ac3.specs.Tallied.{Tallied};
 
 // Dynamic range: the second programme's names stand two further on.
 fn dynamic_range(s: &[u8], rows: &mut [i32], c: Cursor, blk: u8, p: u8) -> Cursor
@@ -90,16 +92,41 @@ fn skip_field(s: &[u8], rows: &mut [i32], c: Cursor, blk: u8) -> Cursor
     }
 }
 
-// Every coupled channel sent coordinates.
-fn all_sent(chincpl: [bool; 5], cplcoe: [bool; 5]) -> bool
-    ensures { λ r. ⌜ r ≡ grammar.allSent chincpl cplcoe ⌝ }
+// Whether a channel has had coordinates while it was coupled: before, or in this block.
+fn has_had(before: bool, coupled: bool, cplcoe: bool) -> bool
+    ensures { λ r. ⌜ r ≡ (before || (coupled && cplcoe)) ⌝ }
+{
+    before || (coupled && cplcoe)
+}
+
+// The same of each channel.
+fn had_by_now(before: [bool; 5], chincpl: [bool; 5], cplcoe: [bool; 5]) -> [bool; 5]
+    ensures { λ r. ⌜ ((ch : ℕ) → ch < 5 → getD r ch false ≡ (getD before ch false || (getD chincpl ch false && getD cplcoe ch false))) ⌝ }
+{
+    let mut had = [false; 5];
+    for ch in 0..5 {
+        had[ch] = has_had(before[ch], chincpl[ch], cplcoe[ch]);
+    }
+    had
+}
+
+// Every coupled channel has had coordinates.
+fn all_had(chincpl: [bool; 5], had: [bool; 5]) -> bool
+    ensures { λ r. ⌜ r ≡ eachCoupled chincpl (λ ch. getD had ch false) ⌝ }
 {
     for ch in 0..5 {
-        if and_not(chincpl[ch], cplcoe[ch]) {
+        if and_not(chincpl[ch], had[ch]) {
             return false;
         }
     }
     true
+}
+
+// The same of every block up to this one.
+fn sent_so_far(before: bool, chincpl: [bool; 5], had: [bool; 5]) -> bool
+    ensures { λ r. ⌜ r ≡ (before && eachCoupled chincpl (λ ch. getD had ch false)) ⌝ }
+{
+    before && all_had(chincpl, had)
 }
 
 // One block more, or not.
@@ -108,19 +135,6 @@ fn one_more_if(count: u8, more: bool) -> u8
     ensures { λ r. ⌜ r ≡ cond more (count + 1) count ⌝ }
 {
     if more { count + 1 } else { count }
-}
-
-// The first block with coupling decides whether coordinates were sent.
-fn is_first(cplinu: bool, coupled: u8) -> bool
-    ensures { λ r. ⌜ r ≡ (cplinu && eqb coupled 0) ⌝ }
-{
-    cplinu && coupled == 0
-}
-
-fn sent_so_far(first: bool, sent: bool, before: bool) -> bool
-    ensures { λ r. ⌜ r ≡ cond first sent before ⌝ }
-{
-    if first { sent } else { before }
 }
 
 fn counted(blk: u8, start: u16, mantissas: u16, cplinu: bool, sent: bool, t: Tally) -> Tally
@@ -135,7 +149,7 @@ fn counted(blk: u8, start: u16, mantissas: u16, cplinu: bool, sent: bool, t: Tal
     mantissa_starts[at] = mantissas;
     Tally {
         coupled: one_more_if(t.coupled, cplinu),
-        coordinates: sent_so_far(is_first(cplinu, t.coupled), sent, t.coordinates),
+        coordinates: sent,
         starts,
         mantissas: mantissa_starts,
     }
@@ -293,13 +307,16 @@ fn alloc_state(
     }
 }
 
+// Beside the tally stands which channels have had coordinates while they were coupled.
 pub struct BlockRead {
     pub state: State,
     pub tally: Tally,
+    pub had: [bool; 5],
     pub cursor: Cursor,
 }
 
-// The exponents in force stand beside the state, and so does what was counted of the slots before.
+// The exponents in force stand beside the state, and so does what was counted of the slots before. Whatever the blocks before were, if `had`
+// and the tally tell of them whether coordinates were sent, they do so of those blocks and this one.
 pub fn audio_block(
     s: &[u8],
     rows: &mut [i32],
@@ -310,13 +327,18 @@ pub fn audio_block(
     blk: u8,
     old: State,
     tally: Tally,
+    had: [bool; 5],
 ) -> BlockRead
     requires { ⌜ (blk < 6) × (tally .coupled ≤ blk) ⌝ }
     requires { ⌜ SoundHeader header ⌝ }
     requires { ⌜ SoundState old ⌝ }
     requires { ⌜ SoundExps (now exps) ⌝ }
     requires { ⌜ Kept (header .fscod) (now memos) (now exps) ⌝ }
-    ensures { λ r. ⌜ Reads (grammar.audioBlock header blk (record { state = old; exps = now (exps .entry); tally = tally })) (now (s .entry)) c (now (rows .entry)) (record { state = r .state; exps = now (exps .exit); tally = r .tally }) (r .cursor) (now (rows .exit)) ⌝ }
+    ensures { λ r. ⌜ ((earlier : List Sending) → Tallied earlier (tally .coordinates) had → (this : Sending)
+        × Reads (grammar.audioBlock header blk (record { state = old; exps = now (exps .entry); tally = tally; blocks = earlier }))
+        (now (s .entry)) c (now (rows .entry))
+        (record { state = r .state; exps = now (exps .exit); tally = r .tally; blocks = earlier ++ this ∷ [] }) (r .cursor) (now (rows .exit))
+        × Tallied (earlier ++ this ∷ []) (r .tally .coordinates) (r .had)) ⌝ }
     ensures { λ r. ⌜ SoundState (r .state) ⌝ }
     ensures { λ r. ⌜ SoundExps (now (exps .exit)) ⌝ }
     ensures { λ r. ⌜ r .tally .coupled ≤ blk + 1 ⌝ }
@@ -361,7 +383,8 @@ pub fn audio_block(
     let cursor = mant.cursor;
     let chincpl = coupling.chincpl;
     let cplcoe = coupled.cplcoe;
-    let sent = all_sent(chincpl, cplcoe);
+    let had = had_by_now(had, chincpl, cplcoe);
+    let sent = sent_so_far(tally.coordinates, chincpl, had);
     let tally = counted(blk, start, mant.start, cplinu, sent, tally);
     BlockRead {
         state: State {
@@ -371,6 +394,7 @@ pub fn audio_block(
             alloc,
         },
         tally,
+        had,
         cursor,
     }
 }

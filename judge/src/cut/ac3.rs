@@ -131,7 +131,9 @@ pub fn parse<S: Source>(cur: &mut Cursor<'_, S>) -> Result<Summary> {
     let mut block_starts = Vec::with_capacity(6);
     let mut mantissa_starts = Vec::with_capacity(6);
     let mut cpl_blocks = 0;
-    let mut coordinates_sent = true; // added: "coordinates sent" of the summary
+    // Added: "coordinates sent" of the summary, and which channels have had cplcoe 1 (it is read of coupled ones alone).
+    let mut coordinates_sent = true;
+    let mut had_coordinates = [false; 5];
 
     for blk in 0..6usize {
         cur.block = blk as i8;
@@ -203,8 +205,9 @@ pub fn parse<S: Source>(cur: &mut Cursor<'_, S>) -> Result<Summary> {
                     }
                 }
             }
-            if cpl_blocks == 1 {
-                coordinates_sent = (0..nfchans).all(|ch| !chincpl[ch] || cplcoe[ch]);
+            for ch in 0..nfchans {
+                had_coordinates[ch] |= cplcoe[ch];
+                coordinates_sent &= !chincpl[ch] || had_coordinates[ch];
             }
             if acmod == 2 && phsflginu && (cplcoe[0] || cplcoe[1]) {
                 for bnd in 0..ncplbnd {

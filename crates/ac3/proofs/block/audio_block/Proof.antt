@@ -1,9 +1,13 @@
--- `ac3::block::audio_block` meets its contract: a `then` for each section, in the order of the table. Assumes nothing.
-use native.Mathlib.Omega.{arith}
+-- `ac3::block::audio_block` meets its contract: a `then` for each section, in the order of the table; and this block is tallied with those
+-- before it. Assumes nothing.
+use mathlib.Core.List.{[]}
+use mathlib.Core.Path.{_∙_}
 use borrow.Author.Needs.{needs}
 use Rattle.syntax.proofs.Sequence.{then, finished, standing}
 use Rattle.mantissas.proofs.Kept.{kept-unless-new}
 use Rattle.ac3.specs.AudioBlock.{audioBlock}
+use Rattle.ac3.specs.Sent.{Sending}
+use Rattle.ac3.proofs.Sent.{one-more-tallied}
 use Rattle.ac3.proofs.block.audio_block.Statement.{statement}
 use Rattle.ac3.proofs.block.audio_block.Tie as tie
 
@@ -54,13 +58,24 @@ mantissas-requires c κs =
 
 counted-requires : tie.Need-counted-requires
 counted-requires c κs =
-    let alloc = c .before .before .before .before .before .before .before .before .before .before .before .before .before .before in
+    let alloc = c .before .before .before .before .before .before .before .before .before .before .before .before .before .before .before in
     start (exponents-before alloc) .pre .0
+
+same-length : tie.Need-same-length
+same-length c =
+    let t7 = c .before .before .before .before .before .before .before in
+    let t6 = t7 .before .before .before .before .before in
+    let t5 = t6 .before .before .before .before in
+    let t4 = exponents-before t5 in
+    let t3 = coupling-before t4 in
+    t7 .mantissas .ensures .0 [] .long ∙ t6 .skip-field .ensures .long ∙ t5 .alloc-state .ensures .0 .long
+    ∙ t4 .exponent-section .ensures .0 .long ∙ t3 .coupling-section .ensures .0 .long ∙ t3 .before .before .before .channel-settings .ensures .long
 
 reads : tie.Need-returns
 unfolding audioBlock
 reads c =
-    let t9 = c in
+    let t10 = c in
+    let t9 = t10 .before in
     let t8 = t9 .before in
     let t7 = t8 .before .before .before .before .before in
     let t6 = t7 .before .before .before .before .before in
@@ -69,15 +84,22 @@ reads c =
     let t3 = coupling-before t4 in
     let t2 = t3 .before .before .before in
     let t1 = channels-before t3 in (
-      rw (t9 .counted .ensures .0, t8 .all-sent .ensures, ← t1 .nfchans .ensures .0)
-          (then _ standing
-          (then _ (t2 .channel-settings .ensures)
-          (then _ (t3 .coupling-section .ensures .0)
-          (then _ (t4 .exponent-section .ensures .0)
-          (then _ (t5 .alloc-state .ensures .0)
-          (then _ (t6 .skip-field .ensures)
-          (then _ (t7 .mantissas .ensures .0 _)
-          finished))))))),
+      λ earlier before.
+          let coupled = t3 .coupling-section .result in
+          let this : Sending = record { chincpl = coupled .coupling .chincpl; cplcoe = coupled .cplcoe } in
+          let tallied = one-more-tallied earlier this before (t8 .had-by-now .result) (t8 .had-by-now .ensures) in (
+            this,
+            rw (t10 .counted .ensures .0, t9 .sent-so-far .ensures ∙ tallied .sent, ← t1 .nfchans .ensures .0)
+                (then _ standing
+                (then _ (t2 .channel-settings .ensures)
+                (then _ (t3 .coupling-section .ensures .0)
+                (then _ (t4 .exponent-section .ensures .0)
+                (then _ (t5 .alloc-state .ensures .0)
+                (then _ (t6 .skip-field .ensures)
+                (then _ (t7 .mantissas .ensures .0 _)
+                finished))))))),
+            rw (t10 .counted .ensures .0, t9 .sent-so-far .ensures) tallied,
+          ),
       (
         record {
           coupling = t3 .coupling-section .ensures .1 .0;
@@ -85,7 +107,7 @@ reads c =
           bandwidths = t4 .exponent-section .ensures .1 .0 .0;
           alloc = t5 .alloc-state .ensures .1;
         },
-        (t4 .exponent-section .ensures .1 .0 .2, (t9 .counted .ensures .1, t7 .mantissas .ensures .1)),
+        (t4 .exponent-section .ensures .1 .0 .2, (t10 .counted .ensures .1, t7 .mantissas .ensures .1)),
       ),
     )
 
@@ -100,7 +122,8 @@ audio-block-spec =
     alloc-state-requires
     (λ c κs. search needs)  -- skip-field-requires
     mantissas-requires
-    (λ c κs. search needs)  -- all-sent-requires
+    (λ c κs. search needs)  -- had-by-now-requires
+    (λ c κs. search needs)  -- sent-so-far-requires
     counted-requires
-    (λ c. reads c .0 .long)  -- same-length
+    same-length
     reads)

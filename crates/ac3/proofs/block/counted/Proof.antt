@@ -20,10 +20,6 @@ counted-spec =
     (λ c. search needs)  -- mul-mantissa-starts
     (λ c. search needs)  -- array-write-mantissa-starts
     (λ c κs. omega (arith, c .before .before .pre))  -- one-more-if-requires
-    (λ c κs. tt)  -- is-first-requires
-    (λ c κs. tt)  -- sent-so-far-requires
     (λ c.
-    let f = c .before in
-    let m = f .before in
-    let start = m .before .before .before in
-    rw (c .sent-so-far .ensures, f .is-first .ensures, m .one-more-if .ensures) (refl, one-more (start .args .cplinu) (start .args .t .coupled) (start .args .blk) (start .pre .1))))  -- returns
+    let start = c .before .before .before in
+    rw (c .one-more-if .ensures) (refl, one-more (start .args .cplinu) (start .args .t .coupled) (start .args .blk) (start .pre .1))))  -- returns

@@ -3,7 +3,7 @@
    proved.
 
    The functions have no state: no heap, no globals, no files, no signals. Any number of threads may call them at once, each with its own
-   `rows`, `out` and `answer`. The archive needs memcpy, memmove and memset, and nothing else.
+   `rows`, `out` and `answer` (and `capture`, where it is written to). The archive needs memcpy, memmove and memset, and nothing else.
 
    An edit breaks the checksums: but for the sync word, crc1 guards the first five eighths of a frame and crc2 all of it. Whoever changes a
    field makes crc2 wrong, and crc1 too where the field stands that early, and a decoder may then drop the frame. The functions neither
@@ -116,7 +116,7 @@ enum {
     /* 111 */ "mantissas" \
 }
 
-/* What each refusal means: 1 to 23 of a frame, 28 and 30 to 34 of a burst. (No others are given.) */
+/* What each refusal means: 1 to 23 of a frame, 28 and 30 to 34 of a burst, 57 to 59 of a value to be set. (No others are given.) */
 #define FERRYSPRIG_MEANINGS { \
     /*  0 */ "accepted", \
     /*  1 */ "the input has fewer than 6 bytes", \
@@ -149,7 +149,11 @@ enum {
     /* 31 */ "the first three words are wrong outside bits 8 to 10 of the third", \
     /* 32 */ "the fourth word is not the frame's length in bits", \
     /* 33 */ "a byte after the frame is not 0", \
-    /* 34 */ "bits 8 to 10 of the third word are not the frame's bsmod" \
+    /* 34 */ "bits 8 to 10 of the third word are not the frame's bsmod", \
+    /* 35 */ "", "", "", "", "", "", "", "", "", "", "", "", "", "", "", "", "", "", "", "", "", "", \
+    /* 57 */ "the width is not 1 to 16", \
+    /* 58 */ "the field does not lie within the capture", \
+    /* 59 */ "the value does not fit the width" \
 }
 
 /* Parses the frame at byte `place` of `capture` into the lent `rows`, and writes the answer's numbers.
@@ -170,6 +174,19 @@ void ferrysprig_parse(const uint8_t *capture, size_t capture_len, size_t place, 
    its bytes, or at a bit that 64 bits cannot count, they are not: the answer is false. A range of no bits ends where it starts, so it
    equals another if both start at most at the ends. x and y may overlap or be the same. */
 bool ferrysprig_range_eq(const uint8_t *x, size_t x_len, size_t a, const uint8_t *y, size_t y_len, size_t b, size_t n);
+
+/* Whether the values of this name (its number) never steer the rest of a frame. There are 39 such names, those of the column "Free" of
+   docs/NAMES.md; the flags that announce a value are not among them, nor are the spans. Any other number is no name, and the answer is
+   false. For an accepted frame, other values of the same width in rows of these names alone give an accepted frame with the same answer and
+   the same rows but for those values, which is proved; so do other bits inside spans and from audio_end on. */
+bool ferrysprig_editable(size_t name);
+
+/* Writes a value of `width` bits at bit `position` of what begins at byte `place` of `capture`, most significant bit first: for a row of
+   the frame at that place, its position and width. Those bits are the value then, and all others are as they were. The answer is 0, or the
+   first of these that holds, and then nothing is written (see FERRYSPRIG_MEANINGS): 57 if the width is not 1 to 16, 58 if 8 place +
+   position + width is more than 8 capture_len (however large the numbers), 59 if the value is 2 to the width or more. That the row may be
+   edited is not looked at, and no checksum is mended. */
+uint8_t ferrysprig_set(uint8_t *capture, size_t capture_len, size_t place, size_t position, size_t width, size_t value);
 
 /* IEC 61937 data bursts: a frame as 6,144 bytes, and back. docs/FORMAT.md has a burst word by word. */
 

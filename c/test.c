@@ -173,6 +173,39 @@ static void try_range_eq(void) {
     holds("more bits than can be counted", !ferrysprig_range_eq(moved, 4, 8, moved, 4, 8, SIZE_MAX));
 }
 
+/* Whether a value set so in three bytes 0xA5 is answered so, and leaves these three. */
+static bool sets(size_t place, size_t position, size_t width, size_t value, uint8_t refusal, uint8_t a, uint8_t b, uint8_t c) {
+    uint8_t capture[] = {0xA5, 0xA5, 0xA5, 0x77}; /* the last one is not lent */
+    const uint8_t expected[] = {a, b, c, 0x77};
+    return ferrysprig_set(capture, 3, place, position, width, value) == refusal && memcmp(capture, expected, sizeof capture) == 0;
+}
+
+/* The same with nothing written. */
+static bool unset(size_t place, size_t position, size_t width, size_t value, uint8_t refusal) {
+    return sets(place, position, width, value, refusal, 0xA5, 0xA5, 0xA5);
+}
+
+static void try_edits(void) {
+    holds("a bit is set", sets(0, 1, 1, 1, 0, 0xE5, 0xA5, 0xA5));
+    holds("a byte across two", sets(1, 4, 8, 0xB7, 0, 0xA5, 0xAB, 0x75));
+    holds("16 bits across three", sets(0, 1, 16, 0x0B77, 0, 0x85, 0xBB, 0xA5));
+    holds("the last 16 bits", sets(0, 8, 16, 0xFFFF, 0, 0xA5, 0xFF, 0xFF));
+    holds("widths that are not 1 to 16", unset(0, 0, 0, 0, 57) && unset(0, 0, 17, 0, 57) && unset(9, 0, SIZE_MAX, 1, 57));
+    holds("a bit past the end", unset(0, 9, 16, 0, 58) && unset(2, 8, 1, 0, 58) && unset(3, 0, 1, 2, 58));
+    holds("bits that cannot be counted", unset((size_t)1 << 61, 0, 1, 1, 58) && unset(1, SIZE_MAX - 7, 1, 1, 58)
+              && unset(0, SIZE_MAX, 1, 1, 58));
+    holds("values too large", unset(0, 0, 1, 2, 59) && unset(0, 8, 16, 65536, 59) && unset(0, 0, 8, SIZE_MAX, 59));
+    holds("nothing to set a value in", ferrysprig_set(NULL, 0, 0, 0, 1, 0) == 58);
+    int listed = 0;
+    for (size_t name = 0; name <= 1000; name++)
+        listed += ferrysprig_editable(name);
+    holds("39 names may be edited", listed == 39);
+    holds("compr may, its flag and spans may not", ferrysprig_editable(14) && !ferrysprig_editable(13) && !ferrysprig_editable(48)
+              && !ferrysprig_editable(110) && !ferrysprig_editable(111));
+    holds("what is no name may not", !ferrysprig_editable(0) && !ferrysprig_editable(112) && !ferrysprig_editable(256 + 14)
+              && !ferrysprig_editable(SIZE_MAX));
+}
+
 static uint8_t out[FERRYSPRIG_BURST_BYTES + 1];
 
 /* Whether an answer about a burst says so, with the output untouched. */
@@ -221,10 +254,11 @@ static void try_texts(void) {
     holds("roles by their numbers", strcmp(roles[FERRYSPRIG_ROLE_FRAME_SIZE], "FrameSize") == 0
               && strcmp(roles[FERRYSPRIG_ROLE_MANTISSAS], "Mantissas") == 0);
     holds("meanings by their numbers", strcmp(meanings[0], "accepted") == 0 && strcmp(meanings[5], "bsid is above 8") == 0
-              && strcmp(meanings[23], "block 0 has snroffste 0") == 0 && strcmp(meanings[33], "a byte after the frame is not 0") == 0);
+              && strcmp(meanings[23], "block 0 has snroffste 0") == 0 && strcmp(meanings[33], "a byte after the frame is not 0") == 0
+              && strcmp(meanings[57], "the width is not 1 to 16") == 0);
     bool empty = meanings[29][0] == '\0';
-    for (int i = 24; i < 28; i++)
-        empty = empty && meanings[i][0] == '\0';
+    for (int i = 24; i < 57; i++)
+        empty = empty && (i == 28 || (i >= 30 && i <= 34) || meanings[i][0] == '\0');
     holds("no meanings where there is no refusal", empty);
 }
 
@@ -291,6 +325,7 @@ int main(int argc, char **argv) {
     try_calls();
     try_frames();
     try_range_eq();
+    try_edits();
     try_bursts();
     try_texts();
     try_stack(argc - 1, argv + 1);

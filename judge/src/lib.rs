@@ -45,6 +45,8 @@ pub mod corners;
 pub mod craft;
 pub mod cut;
 pub mod draw;
+pub mod edit;
+pub mod edit_cases;
 pub mod features;
 pub mod frames;
 pub mod goals;

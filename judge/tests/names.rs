@@ -1,5 +1,6 @@
 //! The names 1 to 111: their order is that of the published text, and docs/NAMES.md holds the table.
 
+use judge::edit::editable;
 use judge::layout::{row_at, NO_PART};
 use judge::names::{fits, number, table, Part, COUNT, NAMES};
 use judge::parts::PARTED;
@@ -79,55 +80,12 @@ fn the_document_holds_the_table() {
     );
 }
 
+/// The list word by word is judge/src/edit.rs's.
 #[test]
 fn free_names_are_request_e6s() {
-    let free: Vec<i32> = (1..)
-        .zip(&NAMES)
-        .filter(|(_, name)| name.free)
-        .map(|(n, _)| n)
-        .collect();
-    let listed = [
-        "crc1",
-        "bsmod",
-        "cmixlev",
-        "surmixlev",
-        "dsurmod",
-        "dialnorm",
-        "compr",
-        "langcod",
-        "mixlevel",
-        "roomtyp",
-        "dialnorm2",
-        "compr2",
-        "langcod2",
-        "mixlevel2",
-        "roomtyp2",
-        "copyrightb",
-        "origbs",
-        "dmixmod",
-        "ltrtcmixlev",
-        "ltrtsurmixlev",
-        "lorocmixlev",
-        "lorosurmixlev",
-        "dsurexmod",
-        "dheadphonmod",
-        "adconvtyp",
-        "xbsi2",
-        "encinfo",
-        "timecod1",
-        "timecod2",
-        "blksw",
-        "dithflag",
-        "dynrng",
-        "dynrng2",
-        "mstrcplco",
-        "cplcoexp",
-        "cplcomant",
-        "phsflg",
-        "rematflg",
-        "gainrng",
-    ];
-    assert_eq!(free, listed.map(number));
+    for (n, name) in (1..).zip(&NAMES) {
+        assert_eq!(name.free, editable(n), "{}", name.text);
+    }
 }
 
 #[test]

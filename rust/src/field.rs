@@ -4,8 +4,8 @@
 //! crate costs.
 
 use crate::layout::{row_at, Row, NO_PART, ROW_NUMBERS};
-use crate::names::{known, name_of, role_of};
-use crate::Role;
+use crate::names::{known, name_of, number_of, role_of};
+use crate::{raw, Role};
 use std::iter::FusedIterator;
 use std::slice::ChunksExact;
 
@@ -58,6 +58,13 @@ impl Field {
     /// The first bit after it.
     pub fn end(&self) -> usize {
         self.pos + self.width
+    }
+
+    /// Whether its value never steers the rest, so that [`edit::set`](crate::edit::set) may write another one and every other field stays
+    /// as it is. It is so for 39 of the [`NAMES`](crate::NAMES) and for nothing of the tail. (The bits of spans are free as well, but they
+    /// are no value.)
+    pub fn editable(&self) -> bool {
+        number_of(self.name).is_some_and(raw::editable)
     }
 }
 

@@ -39,6 +39,10 @@
 //! # Ok::<(), ferrysprig::Refusal>(())
 //! ```
 //!
+//! # Edits
+//!
+//! [`Field::editable`] says whether a field's value may be changed without changing any other field, [`edit::set`] writes another value.
+//!
 //! # Bursts
 //!
 //! [`burst`] writes a frame as an IEC 61937 data burst, and reads the frame of one.
@@ -97,6 +101,7 @@
 #![warn(missing_docs)]
 
 pub mod burst;
+pub mod edit;
 mod field;
 mod frame;
 mod layout;

@@ -169,6 +169,12 @@ pub(crate) fn name_of(number: i32) -> &'static str {
     NAMES.get(place).unwrap_or_else(|| unknown(number))
 }
 
+/// A name's number.
+pub(crate) fn number_of(name: &str) -> Option<usize> {
+    let place = NAMES.iter().position(|known| *known == name)?;
+    Some(place + 1)
+}
+
 #[cold]
 #[inline(never)]
 fn unknown(number: i32) -> ! {

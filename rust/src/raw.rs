@@ -42,6 +42,15 @@ extern "C" {
         out_len: usize,
         answer: *mut BurstAnswer,
     );
+    fn ferrysprig_editable(name: usize) -> bool;
+    fn ferrysprig_set(
+        capture: *mut u8,
+        capture_len: usize,
+        place: usize,
+        position: usize,
+        width: usize,
+        value: usize,
+    ) -> u8;
 }
 
 /// Parses the frame at byte `place` of `capture` into the lent `rows`; the answer, and the rows that it says were written.
@@ -73,6 +82,28 @@ pub fn range_eq(x: &[u8], a: usize, y: &[u8], b: usize, n: usize) -> bool {
     // SAFETY: each pointer and length is that of a slice that lives through the call. The function asks nothing more of its caller, writes
     // nowhere, and keeps no pointer; its answer is C's bool, which is Rust's.
     unsafe { ferrysprig_range_eq(x.as_ptr(), x.len(), a, y.as_ptr(), y.len(), b, n) }
+}
+
+/// Whether the values of a name, by its number, may be edited.
+pub fn editable(name: usize) -> bool {
+    // SAFETY: the function takes a number and asks nothing of its caller; its answer is C's bool, which is Rust's.
+    unsafe { ferrysprig_editable(name) }
+}
+
+/// Writes a value of `width` bits at bit `position` of what begins at byte `place` of `capture`; the refusal, 0 for none.
+pub fn set(capture: &mut [u8], place: usize, position: usize, width: usize, value: usize) -> u8 {
+    // SAFETY: pointer and length are those of a slice that lives through the call and is borrowed mutably, so nothing else refers to it.
+    // The function asks nothing more of its caller, writes only there, and keeps no pointer.
+    unsafe {
+        ferrysprig_set(
+            capture.as_mut_ptr(),
+            capture.len(),
+            place,
+            position,
+            width,
+            value,
+        )
+    }
 }
 
 /// Writes the frame at byte `place` of `capture` to the front of `out` as one burst; the answer, and the bytes that it says were written.

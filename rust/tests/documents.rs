@@ -6,7 +6,7 @@ mod files;
 mod layout;
 
 use ferrysprig::burst::{self, Refusal};
-use ferrysprig::{parse, MOST_BYTES, MOST_ROWS, NAMES, REFUSALS, ROW_NUMBERS};
+use ferrysprig::{edit, parse, Field, Role, MOST_BYTES, MOST_ROWS, NAMES, REFUSALS, ROW_NUMBERS};
 use files::text;
 use layout::{answer_at, burst_answer_at, row_at, ANSWER_NUMBERS, BURST_ANSWER_NUMBERS};
 
@@ -22,6 +22,22 @@ fn names_are_those_of_the_list() {
         })
         .collect();
     assert_eq!(named, NAMES);
+}
+
+/// The names that may be edited are those of the list's last column.
+#[test]
+fn free_names_are_those_of_the_list() {
+    let list = text("docs/NAMES.md");
+    let free = |name: &str| {
+        let mut lines = list.lines().filter(|line| line.starts_with("| "));
+        let line = lines.find(|line| line.split(" | ").nth(1) == Some(name));
+        line.unwrap().ends_with(" yes |")
+    };
+    for name in NAMES {
+        let field = Field::new(name, Role::Plain, -1, -1, 0, 1, 0);
+        // A span's last cell but one says yes, its last one nothing.
+        assert_eq!(field.editable(), free(name), "{name}");
+    }
 }
 
 /// The texts of a table of the header's.
@@ -49,9 +65,10 @@ fn texts_are_those_of_the_header() {
     assert_eq!(table("FERRYSPRIG_NAMES")[1..], NAMES);
     let meanings = table("FERRYSPRIG_MEANINGS");
     assert_eq!(meanings[0], "accepted");
-    let (of_frames, of_bursts) = meanings[1..].split_at(REFUSALS.len());
+    let (of_frames, of_others) = meanings[1..].split_at(REFUSALS.len());
     assert_eq!(of_frames, REFUSALS);
-    let mut said = vec![""; of_bursts.len()];
+    let mut said = vec![""; of_others.len()];
+    let mut say = |number: u8, meaning| said[usize::from(number) - 1 - REFUSALS.len()] = meaning;
     for refusal in [
         Refusal::NotABurst,
         Refusal::WrongWords,
@@ -60,9 +77,16 @@ fn texts_are_those_of_the_header() {
         Refusal::OtherBsmod,
         Refusal::NoRoom,
     ] {
-        said[usize::from(refusal.number()) - 1 - REFUSALS.len()] = refusal.meaning();
+        say(refusal.number(), refusal.meaning());
     }
-    assert_eq!(of_bursts, said);
+    for refusal in [
+        edit::Refusal::WrongWidth,
+        edit::Refusal::PastTheEnd,
+        edit::Refusal::TooLarge,
+    ] {
+        say(refusal.number(), refusal.meaning());
+    }
+    assert_eq!(of_others, said);
 }
 
 #[test]

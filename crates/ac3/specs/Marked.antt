@@ -1,7 +1,7 @@
 -- No part of the definition: what can be said of a grammar by looking through it, and words for it that statements use. Exactly the
--- editable names are read as values that steer nothing, exactly the spans as spans, by name and by role, and every refusal has one of the
--- twenty-three numbers, and tells no name and no block unless it is 6, which is not the grammar's to give.
-use mathlib.Core.Bool.{Bool, false, not, _&&_, _||_}
+-- editable names are read as values that steer nothing, of 1 to 16 bits, exactly the spans as spans, by name and by role, and every refusal
+-- has one of the twenty-three numbers, and tells no name and no block unless it is 6, which is not the grammar's to give.
+use mathlib.Core.Bool.{Bool, true, false, not, _&&_, _||_}
 use mathlib.Core.List.{List, [], _∷_}
 use Prim.Native.Nat.{ℕ}
 use lib.Dec.{T, eqb, leb}
@@ -36,6 +36,16 @@ roleFits steering role = not (spanRole role)
 roleFits unsteering role = not (spanRole role)
 roleFits spanning role = spanRole role
 
+-- a value that steers nothing has 1 to 16 bits
+abbrev pub widthFits : Kind → ℕ → Bool
+widthFits steering w = true
+widthFits unsteering w = leb 1 w && leb w 16
+widthFits spanning w = true
+
+abbrev pub WidthsFit : List Row → Type 0
+WidthsFit [] = Unit {0}
+WidthsFit (r ∷ rs) = T (widthFits (r .kind) (r .width)) × WidthsFit rs
+
 -- each of these rows is of its name's and its role's kind
 abbrev pub KindsFit : List Row → Type 0
 KindsFit [] = Unit {0}
@@ -58,7 +68,7 @@ pub data Marked {A : Type 0} : Grammar A → Type 0 where
   m-done : {a : A} → Marked (done a)
   m-refuse : {x : Refusal} → T (numberFits (x .number)) → T (isJudged x) → Marked (refuse x)
   m-field : {i : Item} {w : ℕ} {k : ℕ → Grammar A} → T (kindFits steering (i .name)) → T (roleFits steering (i .role)) → ((v : ℕ) → Marked (k v)) → Marked (field i w k)
-  m-free : {i : Item} {w : ℕ} {k : Grammar A} → T (kindFits unsteering (i .name)) → T (roleFits unsteering (i .role)) → Marked k → Marked (free i w k)
+  m-free : {i : Item} {w : ℕ} {k : Grammar A} → T (kindFits unsteering (i .name)) → T (roleFits unsteering (i .role)) → T (widthFits unsteering w) → Marked k → Marked (free i w k)
   m-span : {i : Item} {w : ℕ} {k : Grammar A} → T (kindFits spanning (i .name)) → T (roleFits spanning (i .role)) → Marked k → Marked (span i w k)
   m-walk : {i : Item} {ws : List ℕ} {k : Grammar A} → T (kindFits spanning (i .name)) → T (roleFits spanning (i .role)) → Marked k → Marked (walk i ws k)
   m-frame : {x : Refusal} {n : ℕ} {k : Grammar A} → T (numberFits (x .number)) → T (isJudged x) → Marked k → Marked (frame x n k)

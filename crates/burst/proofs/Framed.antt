@@ -23,6 +23,7 @@ use Rattle.syntax.specs.Place.{Place, finish}
 use Rattle.syntax.specs.Rows.{Tiles}
 use Rattle.syntax.specs.Run.{Row, Spot, End, reached, Result, Check, clear, stop, unless, run, rowCheck, walkCheck, frameCheck, sum, beyond, within, start, parse, endOf}
 use Rattle.syntax.proofs.Later.{only-what-was-read, appending}
+use Rattle.syntax.proofs.Tiles.{tiles-le}
 use Rattle.header.specs.Header.{syncinfo, bsi, header}
 use Rattle.header.specs.declared.Header.{Header}
 use Rattle.ac3.specs.AtMost.{AtMost, a-done, a-refuse, a-field, a-free, a-span, a-walk, a-frame, a-here}
@@ -233,10 +234,6 @@ bit-taken : (s : List ℕ) (n p : ℕ) → p < 8 * n → bitAt s p ≡ bitAt (ta
 unfolding bitAt
 bit-taken s n p h = ap (λ b. b / 2 ^ (7 - p % 8) % 2) (sym (getD-take n s (p / 8) 0 (omega (arith, h))))
 
-tiles-forward : (rows : List Row) (from to : ℕ) → Tiles from rows to → from ≤ to
-tiles-forward [] from to t = omega (arith, t)
-tiles-forward (r ∷ rows) from to t = omega (arith, tiles-forward rows (from + r .width) to (t .1))
-
 -- an answer is told by the rows, the bit and the end
 told-of : (e e′ : End Audio) (p p′ : Place) → e ≡ e′ → p .count ≡ p′ .count → p .at ≡ p′ .at → answered (finish e p) .0 ≡ answered (finish e′ p′) .0
 told-of e e′ p p′ end count at = same-answer e p p′ count at ∙ ap (λ e. answered (finish e p′) .0) end
@@ -262,7 +259,7 @@ module _ (c : Call) (ok : Accepted c) where
   some =
       let all = opens c ok in
       let tiled = subst (λ rows. Tiles 0 rows (answerTo c .0 .bit)) (all .1) (kept .tiles ok) in
-      omega (arith, lies .end ok, tiles-forward (all .0) 51 (answerTo c .0 .bit) (tiled .1 .1 .1 .1 .1 .1 .1))
+      omega (arith, lies .end ok, tiles-le (all .0) 51 (answerTo c .0 .bit) (tiled .1 .1 .1 .1 .1 .1 .1))
 
   -- with the longest frame's bytes nothing is too short, so no more are asked for
   most : n ≤ longest

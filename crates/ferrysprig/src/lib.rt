@@ -4,10 +4,13 @@ use syntax::rows::shown;
 ghost use mathlib.Core.Path.{_≡_};
 ghost use Prim.Native.Nat.{_≤_};
 ghost use Rattle.bits.specs.Bits.{rangeEq};
+ghost use Rattle.syntax.specs.Names as Name;
 ghost use Rattle.ac3.specs.Frame as frame;
 ghost use Rattle.ac3.specs.Promise.{call};
 ghost use Rattle.ac3.specs.RowBound.{mostRows};
+ghost use Rattle.ac3.specs.Marked.{among};
 ghost use Rattle.burst.specs.Answers as bursts;
+ghost use Rattle.edits.specs.Edits as edits;
 ghost use Rattle.ferrysprig.specs.Bursts.{burstInOrder, burstNumbers, burstTold};
 ghost use Rattle.ferrysprig.specs.Numbers.{flag, inOrder, answerNumbers, told};
 ghost use Rattle.ferrysprig.specs.Promise.{PromisedNumbers};
@@ -141,4 +144,26 @@ pub extern "C" fn ferrysprig_burst_read(
     ensures { λ _. ⌜ (now (answer .exit), (now (rows .exit), now (out .exit))) ≡ burstTold (bursts.read (now (burst .entry)) (now (rows .entry)) (now (out .entry))) ⌝ }
 {
     *answer = burst_numbers(burst::burst_read(burst, rows, out));
+}
+
+// Whether new values in the fields of this name change nothing but themselves.
+#[no_mangle]
+pub extern "C" fn ferrysprig_editable(name: usize) -> bool
+    ensures { λ r. ⌜ r ≡ among name Name.editable ⌝ }
+{
+    edits::editable(name)
+}
+
+// Writes a value of this width at a bit of the frame that starts at a place of the capture, and answers the refusal.
+#[no_mangle]
+pub extern "C" fn ferrysprig_set(
+    capture: &mut [u8],
+    place: usize,
+    position: usize,
+    width: usize,
+    value: usize,
+) -> u8
+    ensures { λ r. ⌜ (r, now (capture .exit)) ≡ edits.set (now (capture .entry)) place position width value ⌝ }
+{
+    edits::set(capture, place, position, width, value)
 }

@@ -33,10 +33,10 @@ module _ (r : Row) (rest : List ℤ) where
   behind : drop rowWidth (numbers r ++ rest) ≡ rest
   behind = drop-at (numbers r) rest rowWidth refl
 
-  front : rowAt 0 (numbers r ++ rest) ≡ numbers r
+  pub front : rowAt 0 (numbers r ++ rest) ≡ numbers r
   front = take-at (numbers r) rest rowWidth refl
 
-  past : (i : ℕ) → rowAt (suc i) (numbers r ++ rest) ≡ rowAt i rest
+  pub past : (i : ℕ) → rowAt (suc i) (numbers r ++ rest) ≡ rowAt i rest
   past i =
       let places : suc i * rowWidth ≡ rowWidth + i * rowWidth = omega arith in
       ap (λ k. take rowWidth (drop k (numbers r ++ rest))) places

@@ -1,0 +1,3 @@
+pub mod Freely
+pub mod Setting
+pub mod OneField

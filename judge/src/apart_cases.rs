@@ -2,7 +2,7 @@
 //! are asked about by `header`, and then by `blocks` with header answers of every sort. What each call must answer is known beforehand
 //! from the whole parse, which agrees with the published parser, and is checked here. A disagreement stops the program.
 
-use crate::agree::{fresh_room, Ample, Call, Judge, Room};
+use crate::agree::{call_within, fresh_room, Ample, Call, Judge, Room};
 use crate::apart::{blocks, header, LONGEST, MOST_ROWS, OTHER_HEADER};
 use crate::bits;
 use crate::cases::{self, Amounts};
@@ -16,6 +16,7 @@ use crate::names::{self, number};
 use crate::rng::Rng;
 use crate::tables::ac3_frame_words;
 use std::collections::BTreeMap;
+use std::rc::Rc;
 
 /// What was asked, and what the judge answered.
 #[derive(Clone, Copy, Debug)]
@@ -547,12 +548,12 @@ impl<'s> Apart<'s> {
 
     /// Every room from none to one that holds the header and two rows more.
     fn rooms(&mut self, capture: &[u8], place: usize) {
-        let ample = self.judge.ample(capture, place);
+        let ample = Rc::new(self.judge.ample(capture, place));
         let rows = header_rows(&ample).count();
         let accepted = entailed(&ample, ROW * rows);
         for limit in 0..=rows + 2 {
-            let numbers = ROW * limit + self.rng.below(ROW);
-            let call = self.judge.call(capture, place, Room::Numbers(numbers));
+            let room = Room::Numbers(ROW * limit + self.rng.below(ROW));
+            let call = call_within(ample.clone(), capture, place, room);
             let input = self.header(capture, place, &call);
             self.blocks(&input, input.own, Sort::Own);
             let taken = self.blocks(&input, accepted, Sort::OfAnotherRoom);
@@ -576,20 +577,24 @@ impl<'s> Apart<'s> {
         }
     }
 
-    /// All that is done with an input to which the most is done: each number changed in each way, each two together, answers of every sort.
+    /// All that is done with an input to which the most is done: answers of every sort; then, in room for the header and some rows more, each
+    /// number changed in each way, and each two together.
     fn thoroughly(&mut self, capture: &[u8], place: usize) {
         let left_over = self.rng.below(ROW);
         let call = self
             .judge
             .call(capture, place, Room::Sufficient { left_over });
         let input = self.header(capture, place, &call);
-        self.blocks(&input, input.own, Sort::Own);
+        for sort in Sort::ALL {
+            (0..4).for_each(|_| self.given(&input, sort));
+        }
+        let rows = header_rows(&call.ample).count() + self.rng.below(20);
+        let room = Room::Numbers(ROW * rows + left_over);
+        let call = call_within(call.ample.clone(), capture, place, room);
+        let input = self.header(capture, place, &call);
         for at in 0..HEADER_ANSWER {
             (0..CHANGES.len()).for_each(|way| self.changed(&input, at, way));
             (0..HEADER_ANSWER).for_each(|less| self.balanced(&input, at, less));
-        }
-        for sort in Sort::ALL {
-            (0..4).for_each(|_| self.given(&input, sort));
         }
     }
 

@@ -248,6 +248,12 @@ fn entailed(ample: &Ample, room: usize) -> HeaderAnswer {
     answer
 }
 
+/// A call, for whoever looks into a disagreement.
+fn said(numbers: usize, place: usize, capture: &[u8]) -> String {
+    let bytes = hex::of(capture);
+    format!("{numbers} numbers, place {place} of {bytes}")
+}
+
 /// What `blocks` answers to a header answer that does not fit.
 fn not_taken() -> [i32; ANSWER] {
     let mut answer = [0; ANSWER];
@@ -307,13 +313,7 @@ impl<'s> Apart<'s> {
         let mut left = fresh_room(call.room.len());
         left[..ROW * rows].copy_from_slice(&call.room[..ROW * rows]);
         let agreed = own == entailed(&call.ample, room.len()) && room == left;
-        let of = || {
-            format!(
-                "{} numbers, place {place} of {}",
-                room.len(),
-                hex::of(capture)
-            )
-        };
+        let of = || said(room.len(), place, capture);
         assert!(agreed, "the header: {own:?}\n{}", of());
         self.calls[0] += 1;
         self.note(&own, &call.ample);
@@ -371,13 +371,7 @@ impl<'s> Apart<'s> {
             true => answer == input.call.answer.numbers() && room == input.call.room,
             false => answer == not_taken() && room == fresh_room(room.len()),
         };
-        let of = || {
-            format!(
-                "{} numbers, place {place} of {}",
-                room.len(),
-                hex::of(capture)
-            )
-        };
+        let of = || said(room.len(), place, capture);
         assert!(agreed, "blocks with {given:?}: {answer:?}\n{}", of());
         assert!(!taken || sort.may_fit(), "{sort:?}: {given:?} was taken");
         self.calls[1] += 1;
@@ -535,13 +529,7 @@ impl<'s> Apart<'s> {
         let again = self.header(&other, place, &call);
         let written = ROW * input.own[header_at::ROWS] as usize;
         let same = again.own == input.own && call.room[..written] == input.call.room[..written];
-        let of = || {
-            format!(
-                "place {place} of {} and {}",
-                hex::of(capture),
-                hex::of(&other)
-            )
-        };
+        let of = || said(written, place, capture) + " and " + &hex::of(&other);
         assert!(same, "the header depends on what follows it: {}", of());
         self.blocks(&again, input.own, Sort::BeforeOtherBits);
     }
@@ -618,6 +606,8 @@ impl<'s> Apart<'s> {
                 self.thoroughly(&frame, 0);
             }
         }
+        self.thoroughly(&[], 0);
+        self.thoroughly(&sized(0, 20, &|_| None), usize::MAX);
         for addbsil in 0..64 {
             let bsid = addbsil % 9;
             let frame = sized(0, 20, &full(addbsil % 8, 1, bsid, addbsil));

@@ -65,7 +65,7 @@ module _ (a b : List ℤ) (i : ℕ) (in-a : i < length a) (in-b : i < length b) 
   unfolding sameNumbers
   from-here =
       let next : i + 1 ≡ suc i = omega arith in
-      rw (next) (ap (λ x. sameNumbers x (drop i b)) (drop-cons a i (pos 0) in-a) ∙ ap (sameNumbers (getD a i (pos 0) ∷ drop (suc i) a)) (drop-cons b i (pos 0) in-b))
+      rw next (ap (λ x. sameNumbers x (drop i b)) (drop-cons a i (pos 0) in-a) ∙ ap (sameNumbers (getD a i (pos 0) ∷ drop (suc i) a)) (drop-cons b i (pos 0) in-b))
 
   pub alike-here : getD a i (pos 0) ≡ getD b i (pos 0) → sameNumbers (drop i a) (drop i b) ≡ sameNumbers (drop (i + 1) a) (drop (i + 1) b)
   alike-here e = from-here ∙ ap (λ t. t && sameNumbers (drop (i + 1) a) (drop (i + 1) b)) (eqZ-yes _ _ e)

@@ -175,7 +175,8 @@ static bool not_taken(const uint8_t *frame, size_t place, size_t room_len, const
 }
 
 static void try_apart(void) {
-    static uint8_t frame[128] = {0x0B, 0x77, 0x00, 0x00, 0x00, 0x40, 0x20, 0x00, 0x0B, 0x00, 0x1F, 0x3E, 0x7C, 0xF9, 0xF3, 0xE2, 0x00, 0x20};
+    static const uint8_t frame[128] = {0x0B, 0x77, 0x00, 0x00, 0x00, 0x40, 0x20, 0x00, 0x0B, 0x00, 0x1F, 0x3E, 0x7C, 0xF9, 0xF3, 0xE2, 0x00,
+        0x20};
     const int32_t whole[] = {0, 17, 65, 0, -1, 128, 8, 1, 0, 0};
     const int32_t of_example[] = {3, 4, 40, 0, -1, 0, 0, 0, 0, 0};
     const int32_t full[] = {7, 5, 45, 0, -1, 0, 0, 0, 0, 0};
@@ -304,8 +305,8 @@ static void try_texts(void) {
               && strcmp(roles[FERRYSPRIG_ROLE_MANTISSAS], "Mantissas") == 0);
     holds("meanings by their numbers", strcmp(meanings[0], "accepted") == 0 && strcmp(meanings[5], "bsid is above 8") == 0
               && strcmp(meanings[23], "block 0 has snroffste 0") == 0
-              && strcmp(meanings[24], "the header answer does not fit the input") == 0 && strcmp(meanings[33], "a byte after the frame is not 0") == 0
-              && strcmp(meanings[57], "the width is not 1 to 16") == 0);
+              && strcmp(meanings[24], "the header answer does not fit the input") == 0
+              && strcmp(meanings[33], "a byte after the frame is not 0") == 0 && strcmp(meanings[57], "the width is not 1 to 16") == 0);
     bool empty = meanings[29][0] == '\0';
     for (int i = 25; i < 57; i++)
         empty = empty && (i == 28 || (i >= 30 && i <= 34) || meanings[i][0] == '\0');
@@ -318,8 +319,9 @@ static uint8_t stream[65536];
 static size_t stream_len;
 static ucontext_t here, there;
 
-/* Parses a stream; or reads each header and then the blocks; or writes its frames as bursts and reads those. */
-static enum { WHOLE, APART, AS_BURSTS, WAYS } way;
+/* Reads each header of a stream and then the blocks; or parses it; or writes its frames as bursts and reads those. (The deepest comes
+   first: what binding takes is taken once.) */
+static enum { APART, WHOLE, AS_BURSTS, WAYS } way;
 
 static void call(void) {
     static uint8_t back[FERRYSPRIG_MOST_BYTES];
@@ -365,7 +367,7 @@ static void try_stack(int files, char **names) {
         all_read = all_read && stream_len > 0;
         if (in)
             fclose(in);
-        for (way = WHOLE; way < WAYS; way++) {
+        for (way = APART; way < WAYS; way++) {
             size_t used = stack_used();
             most = used > most ? used : most;
         }

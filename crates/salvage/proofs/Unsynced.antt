@@ -1,6 +1,6 @@
 -- Where six bytes are left a parse writes the first row, whatever it finds. So what the parse before left there does not matter, if it was that
 -- row alone: as where no sync word stands. Assumes nothing.
-use mathlib.Core.Bool.{Bool, true, false, not, _&&_}
+use mathlib.Core.Bool.{Bool, true, false, not}
 use mathlib.Core.List.{List, _++_}
 use mathlib.Core.Path.{_≡_, refl, sym, ap, _∙_}
 use Prim.Native.Nat.{ℕ, suc, _+_, _-_, _*_, _/_, _≤_, _<_}
@@ -18,7 +18,7 @@ use Rattle.syntax.specs.declared.Role.the-variants.{Sync}
 use Rattle.syntax.specs.Grammar.{Grammar, field, frame, _>>=_, roled}
 use Rattle.syntax.specs.Names as Name
 use Rattle.syntax.specs.Numbers.{rowWidth, numbers}
-use Rattle.syntax.specs.Place.{Outcome, no, except, exec, fresh, put, stand, limitTo}
+use Rattle.syntax.specs.Place.{no, except, exec, fresh, put, stand, limitTo}
 use Rattle.syntax.specs.Refusals.{notSync, full}
 use Rattle.syntax.specs.Run.{Row, steering, row, roomCheck, check}
 use Rattle.header.specs.Header.{syncinfo, header}

@@ -1,3 +1,4 @@
 pub mod Look
 pub mod Found
 pub mod Opening
+pub mod Framed

@@ -1,0 +1,6 @@
+pub mod Parsed
+pub mod Lent
+pub mod Steps
+pub mod Loop
+pub mod Salvages
+pub mod Unbroken

@@ -54,7 +54,7 @@ int main(int argc, char **argv) {
             bool gap = entry[FERRYSPRIG_ENTRY_KIND] == FERRYSPRIG_KIND_GAP;
             gaps = gaps || gap;
             place = begin + entry[FERRYSPRIG_ENTRY_PLACE]; /* counted from where the walk began */
-            printf("%s at byte %zu: %zu bytes\n", gap ? "gap" : "frame", place, entry[FERRYSPRIG_ENTRY_LENGTH]);
+            printf("%s at byte %zu, length %zu\n", gap ? "gap" : "frame", place, entry[FERRYSPRIG_ENTRY_LENGTH]);
             place += entry[FERRYSPRIG_ENTRY_LENGTH];
         }
         if (fwrite(out, 1, answer[FERRYSPRIG_SALVAGE_ANSWER_WRITTEN], frames) != answer[FERRYSPRIG_SALVAGE_ANSWER_WRITTEN])

@@ -27,7 +27,7 @@ fn main() -> ExitCode {
     for entry in &entries {
         let kind = if entry.is_gap() { "gap" } else { "frame" };
         let (place, length) = (entry.range().start, entry.range().len());
-        text += &format!("{kind} at byte {place}: {length} bytes\n");
+        text += &format!("{kind} at byte {place}, length {length}\n");
     }
     // Not `print`, which panics where nobody reads on.
     let printed = io::stdout().write_all(text.as_bytes());

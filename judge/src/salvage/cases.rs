@@ -460,6 +460,14 @@ impl<'s> Salvages<'s> {
         self.thoroughly(&capture, 16);
     }
 
+    /// Captures of any pieces alone.
+    pub fn run_mixed(&mut self, captures: usize) {
+        self.gather();
+        for _ in 0..captures {
+            self.mixed();
+        }
+    }
+
     pub fn run(&mut self, amounts: Amounts) {
         self.gather();
         self.shortest();

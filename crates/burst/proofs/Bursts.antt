@@ -23,8 +23,9 @@ use Rattle.burst.specs.Bursts.{wrote, bytesOf, Gives, Bytes, AsManyRows,
 use Rattle.rows.specs.Framed.{frameOf, SameFrame, Framed}
 use Rattle.burst.specs.declared.Answer.{Answer}
 use Rattle.rows.proofs.Framed.{accepted-framed}
+use Rattle.rows.proofs.Spelt.{spelt}
 use Rattle.burst.proofs.Judged.{bsmod-lt, w-done, r-done}
-use Rattle.burst.proofs.Words.{spelt, third, fourth, mode-there, opened, frame-there, zeros-there}
+use Rattle.burst.proofs.Words.{third, fourth, mode-there, opened, frame-there, zeros-there}
 use Rattle.burst.proofs.Written.{burst-long}
 
 -- ---- what is not refused passed every check

@@ -2,3 +2,4 @@ pub mod Look
 pub mod Found
 pub mod Opening
 pub mod Framed
+pub mod Spelt

@@ -1,4 +1,5 @@
 pub mod Parsed
+pub mod Unsynced
 pub mod Lent
 pub mod Steps
 pub mod Loop

@@ -12,7 +12,7 @@ use Rattle.ac3.specs.Frame.{answer}
 use Rattle.ac3.specs.RowBound.{mostRows}
 use Rattle.ac3.specs.declared.Answer as parse
 use Rattle.salvage.specs.Walk.{Entry, frame, entryWidth, Rooms, Kept, noOutput, noEntry, noFields, bytesAt, isMet, salvage}
-use Rattle.salvage.specs.Lent.{roomsIn, salvaged}
+use Rattle.salvage.specs.Lent.{salvaged}
 
 -- what parsing answers at a place, with the field room as it was lent
 abbrev pub answerAt : (capture : List ℕ) (rows : List ℤ) (place : ℕ) → parse.Answer
@@ -120,7 +120,7 @@ ComesOutTheSame capture rooms rows =
     (count : ℕ) → Frames capture rows count 0 → count ≤ rooms .entries → length capture ≤ rooms .bytes
     → (salvage capture rooms rows .refusal ≡ 0) × (salvage capture rooms rows .output ≡ capture)
 
--- ---- what was lent: nothing after the entries, the frames and the rows is touched
+-- ---- what was lent: nothing after the entries and the frames is touched, refused or not
 
 pub record Rest (before after : List ℕ) (used : ℕ) : Type 0 where
   pub within : used ≤ length before

@@ -6,6 +6,7 @@ ghost use lib.ListN.{length};
 ghost use lib.Seq.{sets};
 ghost use Rattle.salvage.specs.Walk.{entryWidth, closeGap, isMet, keepFrame, meet};
 ghost use Rattle.salvage.specs.Lent.{Does, salvaged};
+ghost use Rattle.salvage.specs.Passed.{isSync, Passed};
 
 // The numbers of an entry of the list: kind, place, length.
 pub const ENTRY: usize = 3;
@@ -23,6 +24,9 @@ const NO_FIELDS: u8 = 37;
 
 // What `parse` answers where no row is left.
 const NO_ROW: u8 = 7;
+
+// Fewer bytes than these are no frame, whatever they are.
+const SYNCINFO: usize = 6;
 
 // Refusal 0: the whole capture was gone through. How many entries are listed, and how many bytes are written.
 pub struct Answer {
@@ -132,6 +136,30 @@ fn meet(
     keep_frame(&capture[place..after], place, list, out, closed)
 }
 
+// Whether the sync word stands at a place.
+fn is_sync(capture: &[u8], place: usize) -> bool
+    requires { ⌜ place + 1 < length (now capture) ⌝ }
+    ensures { λ r. ⌜ r ≡ isSync (now (capture .entry)) place ⌝ }
+{
+    capture[place] == 0x0B && capture[place + 1] == 0x77
+}
+
+// The next place that is worth a parse: where the sync word stands, or where the one after has too few bytes for it. What a parse would
+// leave in the room at the places before, the parse there writes over.
+fn next_place(capture: &[u8], from: usize) -> usize
+    requires { ⌜ from ≤ length (now capture) ⌝ }
+    ensures { λ r. ⌜ (r ≤ length (now (capture .entry))) × Passed (now (capture .entry)) from r ⌝ }
+{
+    let mut place = from;
+    while place + SYNCINFO < capture.len() {
+        if is_sync(capture, place) {
+            return place;
+        }
+        place += 1;
+    }
+    place
+}
+
 // Goes through a capture from byte 0. The frames that are accepted are written one after the other to the front of the output, and frames
 // and gaps are listed, three numbers to an entry: kind (0 frame, 1 gap), place, length.
 pub fn salvage(capture: &[u8], rows: &mut [i32], list: &mut [usize], out: &mut [u8]) -> Answer
@@ -147,7 +175,7 @@ pub fn salvage(capture: &[u8], rows: &mut [i32], list: &mut [usize], out: &mut [
     while place < capture.len() {
         let parsed = ac3::parse(capture, place, rows);
         if !is_met(parsed.refusal) {
-            place += 1;
+            place = next_place(capture, place + 1);
             continue;
         }
         done = meet(capture, list, out, done, parsed, from, place);

@@ -19,9 +19,12 @@ abbrev μ-loop : tie.MeasureT-loop
 
 again : tie.Need-loop-again Inv-loop μ-loop
 again c =
-    let read = c .before .before in
+    let judged = c .before in
+    let read = judged .before .before in
     let test = read .before .before .before in
-    passes _ _ _ _ (test .before .loop .inv) (test .loop-test .taken) (read .before .parse .ensures .0) (read .rows .given) (sym (c .before .is-met .ensures) ∙ not-true _ (c .if1 .taken))
+    let next = c .next-place .ensures in
+    passes _ _ _ _ (test .before .loop .inv) (test .loop-test .taken) (read .before .parse .ensures .0) (read .rows .given)
+    (sym (judged .before .is-met .ensures) ∙ not-true _ (judged .if1 .taken)) (next .0) (next .1)
 
 inside : tie.Need-meet-requires Inv-loop μ-loop
 inside c κs =
@@ -39,7 +42,7 @@ refused c =
     refuses _ _ _ _ (test .before .loop .inv) (test .loop-test .taken) (read .before .parse .ensures .0) (read .rows .given)
     (sym (judged .before .is-met .ensures) ∙ not-false _ (judged .if1 .left)) (met .meet .ensures) (c .if2 .taken)
 
-fits : tie.Need-add-place-2 Inv-loop μ-loop
+fits : tie.Need-add-place Inv-loop μ-loop
 fits c =
     let read = c .before .before .before .before .before .before .before .before .before .before .before .before .before .before in
     let test = read .before .before .before in
@@ -84,8 +87,9 @@ salvage-spec =
     (λ c. begins _ _ _ _)  -- loop-holds
     (λ c κs. search needs)  -- parse-requires
     (λ c κs. search needs)  -- is-met-requires
-    (λ c. search needs)  -- add-place
-    (λ c. search needs)  -- loop-less
+    (λ c. search needs)  -- add-next-place
+    (λ c κs. omega arith)  -- next-place-requires
+    (λ c. omega (arith, c .next-place .ensures .1 .onward))  -- loop-less
     again
     inside
     (λ c. omega arith)  -- same-length

@@ -175,7 +175,8 @@ static bool not_taken(const uint8_t *frame, size_t place, size_t room_len, const
 }
 
 static void try_apart(void) {
-    static uint8_t frame[128] = {0x0B, 0x77, 0x00, 0x00, 0x00, 0x40, 0x20, 0x00, 0x0B, 0x00, 0x1F, 0x3E, 0x7C, 0xF9, 0xF3, 0xE2, 0x00, 0x20};
+    static const uint8_t frame[128] = {0x0B, 0x77, 0x00, 0x00, 0x00, 0x40, 0x20, 0x00, 0x0B, 0x00, 0x1F, 0x3E, 0x7C, 0xF9, 0xF3, 0xE2, 0x00,
+        0x20};
     const int32_t whole[] = {0, 17, 65, 0, -1, 128, 8, 1, 0, 0};
     const int32_t of_example[] = {3, 4, 40, 0, -1, 0, 0, 0, 0, 0};
     const int32_t full[] = {7, 5, 45, 0, -1, 0, 0, 0, 0, 0};
@@ -385,9 +386,9 @@ static uint8_t stream[65536];
 static size_t stream_len;
 static ucontext_t here, there;
 
-/* What is called: the parse of each frame of a stream; its header and then its blocks; each frame written as a burst and read; the stream
-   salvaged. */
-static enum { PARSES, APART, BURSTS, SALVAGE, WAYS } way;
+/* What is called: the header of each frame of a stream and then its blocks; the parse of each; each frame written as a burst and read; the
+   stream salvaged. (The deepest comes first: what binding takes is taken once.) */
+static enum { APART, PARSES, BURSTS, SALVAGE, WAYS } way;
 
 static void call(void) {
     static uint8_t back[FERRYSPRIG_MOST_BYTES];
@@ -439,7 +440,7 @@ static void try_stack(int files, char **names) {
         all_read = all_read && stream_len > 0;
         if (in)
             fclose(in);
-        for (way = PARSES; way < WAYS; way++) {
+        for (way = APART; way < WAYS; way++) {
             size_t used = stack_used();
             most = used > most ? used : most;
         }

@@ -295,14 +295,16 @@ static void try_bursts(void) {
     holds("a burst of another data type", burst_refused(31, 0));
 }
 
-/* What a salvage is lent: two numbers more than four entries have, and a byte more than two of the frames; and one of each that is not lent. */
+/* What a salvage is lent at most: two numbers more than four entries have, and a byte more than two of the frames. (One number more of the
+   list, and more bytes of `out`, are not lent.) */
 enum { LIST = 4 * FERRYSPRIG_ENTRY_NUMBERS + 2, FRAMES = 2 * FERRYSPRIG_LEAST_BYTES + 1 };
 static size_t list[LIST + 1];
 static size_t salvage_answer[FERRYSPRIG_SALVAGE_ANSWER_NUMBERS + 1];
 
 /* Salvages the first bytes of a frame, a gap of three bytes, and the frame again, in these rooms. */
 static void salvage(size_t length, size_t numbers, size_t listed, size_t bytes) {
-    static const uint8_t front[] = {0x0B, 0x77, 0x00, 0x00, 0x00, 0x40, 0x20, 0x00, 0x0B, 0x00, 0x1F, 0x3E, 0x7C, 0xF9, 0xF3, 0xE2, 0x00, 0x20};
+    static const uint8_t front[] = {0x0B, 0x77, 0x00, 0x00, 0x00, 0x40, 0x20, 0x00, 0x0B, 0x00, 0x1F, 0x3E, 0x7C, 0xF9, 0xF3, 0xE2, 0x00,
+        0x20};
     static uint8_t capture[2 * FERRYSPRIG_LEAST_BYTES + 3];
     memcpy(capture, front, sizeof front);
     memcpy(&capture[FERRYSPRIG_LEAST_BYTES + 3], front, sizeof front);
@@ -397,7 +399,8 @@ static void call(void) {
     if (way == SALVAGE) {
         static uint8_t frames[sizeof stream];
         static size_t entries[FERRYSPRIG_ENTRY_NUMBERS * FERRYSPRIG_MOST_ENTRIES(sizeof stream)];
-        ferrysprig_salvage(stream, stream_len, room, numbers, entries, sizeof entries / sizeof *entries, frames, sizeof frames, salvage_answer);
+        ferrysprig_salvage(stream, stream_len, room, numbers, entries, sizeof entries / sizeof *entries, frames, sizeof frames,
+                           salvage_answer);
         return;
     }
     do {

@@ -1,5 +1,5 @@
 -- Values of the definition, each on an input where a slip would show. Assumes nothing.
-use mathlib.Core.List.{List, [], _∷_}
+use mathlib.Core.List.{[], _∷_}
 use mathlib.Core.Path.{_≡_, refl}
 use Rattle.bits.specs.Bits.{bitAt, value}
 use Rattle.tables.specs.Tables.{vqBits, gaqBits}

@@ -1,11 +1,11 @@
 -- `aht::gains::active_bins` meets its contract: the invariant says which bins are left to count. Assumes nothing.
-use mathlib.Core.Path.{_≡_, refl, sym, _∙_}
+use mathlib.Core.Path.{_≡_, sym, _∙_}
 use Prim.Native.Nat.{_+_, _-_, _≤_}
-use native.Mathlib.Nat.{add-zero, zero-add, add-assoc}
+use native.Mathlib.Nat.{add-zero, zero-add}
 use native.Mathlib.Omega.{arith}
 use lib.ListN.{getD}
 use borrow.Author.Needs.{needs}
-use Rattle.aht.specs.Aht.{activeOne, activeBins, range}
+use Rattle.aht.specs.Aht.{activeBins, range}
 use Rattle.aht.proofs.Range.{range-none, range-one}
 use Rattle.aht.proofs.Active.{active-small}
 use Rattle.aht.proofs.gains.active_bins.Statement.{statement}

@@ -1,6 +1,6 @@
 -- `aht::gains::composites` meets its contract: the invariant says which words are left. Assumes nothing.
-use mathlib.Core.Path.{_≡_, refl, sym, _∙_}
-use mathlib.Core.Bool.{true, false}
+use mathlib.Core.Path.{_≡_, sym, _∙_}
+use mathlib.Core.Bool.{true}
 use Prim.Native.Nat.{ℕ, _+_, _-_, _≤_, suc}
 use native.Mathlib.Nat.{sub-zero}
 use native.Mathlib.Omega.{arith}

@@ -1,5 +1,4 @@
 -- `aht::mantissas::is_tag` meets its contract: the power of 2 does not wrap. Assumes nothing.
-use mathlib.Core.Path.{refl}
 use Prim.Native.Nat.{_-_}
 use native.Mathlib.Omega.{arith}
 use borrow.Author.Needs.{needs}

@@ -1,5 +1,5 @@
 -- `aht::mantissas::mantissas` meets its contract: the invariant says which blocks are left. Assumes nothing.
-use mathlib.Core.Path.{_≡_, refl, sym, _∙_, ap}
+use mathlib.Core.Path.{_≡_, refl, sym, _∙_}
 use Prim.Native.Nat.{_+_, _-_, _≤_, suc}
 use native.Mathlib.Omega.{arith}
 use borrow.Author.Needs.{needs}

@@ -66,3 +66,6 @@ pub mod answer_at {
 
 /// An answer about a burst: its numbers are refusal, rows of the parse, bytes written.
 pub type BurstAnswer = [i32; 3];
+
+/// An answer about an AHT section: refusal, the bit after it, tags.
+pub type AhtAnswer = [usize; 3];

@@ -47,6 +47,10 @@
 //!
 //! [`burst`] writes a frame as an IEC 61937 data burst, and reads the frame of one.
 //!
+//! # AHT sections
+//!
+//! [`aht`] tells where a section of E-AC-3's adaptive hybrid transform ends, and how many tags it has. Mantissa values steer that length.
+//!
 //! # What comes after the audio
 //!
 //! The original's `parse` ends with `read_tail`: auxiliary data, crcrsv and crc2. That is the caller's. It goes on at bit
@@ -100,6 +104,7 @@
 
 #![warn(missing_docs)]
 
+pub mod aht;
 pub mod burst;
 pub mod edit;
 mod field;

@@ -6,9 +6,14 @@ mod files;
 mod layout;
 
 use ferrysprig::burst::{self, Refusal};
-use ferrysprig::{edit, parse, Field, Role, MOST_BYTES, MOST_ROWS, NAMES, REFUSALS, ROW_NUMBERS};
+use ferrysprig::{
+    aht, edit, parse, Field, Role, MOST_BYTES, MOST_ROWS, NAMES, REFUSALS, ROW_NUMBERS,
+};
 use files::text;
-use layout::{answer_at, burst_answer_at, row_at, ANSWER_NUMBERS, BURST_ANSWER_NUMBERS};
+use layout::{
+    aht_answer_at, answer_at, burst_answer_at, row_at, AHT_ANSWER_NUMBERS, ANSWER_NUMBERS,
+    BURST_ANSWER_NUMBERS,
+};
 
 #[test]
 fn names_are_those_of_the_list() {
@@ -86,6 +91,14 @@ fn texts_are_those_of_the_header() {
     ] {
         say(refusal.number(), refusal.meaning());
     }
+    // (Refusal 6 of a section has a frame's number and its own text.)
+    for refusal in [
+        aht::Refusal::WrongGain,
+        aht::Refusal::WrongHebap,
+        aht::Refusal::NoSuchBin,
+    ] {
+        say(refusal.number(), refusal.meaning());
+    }
     assert_eq!(of_others, said);
 }
 
@@ -95,6 +108,8 @@ fn numbers_are_those_of_the_header() {
     assert_eq!(ANSWER_NUMBERS, number("FERRYSPRIG_ANSWER_NUMBERS"));
     let of_burst = number("FERRYSPRIG_BURST_ANSWER_NUMBERS");
     assert_eq!(BURST_ANSWER_NUMBERS, of_burst);
+    let of_aht = number("FERRYSPRIG_AHT_ANSWER_NUMBERS");
+    assert_eq!(AHT_ANSWER_NUMBERS, of_aht);
     assert_eq!(MOST_ROWS, number("FERRYSPRIG_MOST_ROWS"));
     assert_eq!(MOST_BYTES, number("FERRYSPRIG_MOST_BYTES"));
     assert_eq!(burst::BYTES, number("FERRYSPRIG_BURST_BYTES"));
@@ -155,6 +170,11 @@ fn places_are_those_of_the_header() {
         ("ROWS", answer_at::ROWS),
         ("WRITTEN", burst_answer_at::WRITTEN),
     ];
+    let aht = [
+        ("REFUSAL", aht_answer_at::REFUSAL),
+        ("END", aht_answer_at::END),
+        ("TAGS", aht_answer_at::TAGS),
+    ];
     let own = |ours: &[(&str, usize)]| {
         let pairs = ours.iter().map(|(name, at)| (name.to_string(), *at));
         pairs.collect::<Vec<_>>()
@@ -162,6 +182,7 @@ fn places_are_those_of_the_header() {
     assert_eq!(places("FERRYSPRIG_ROW_"), own(&row));
     assert_eq!(places("FERRYSPRIG_ANSWER_"), own(&answer));
     assert_eq!(places("FERRYSPRIG_BURST_ANSWER_"), own(&burst));
+    assert_eq!(places("FERRYSPRIG_AHT_ANSWER_"), own(&aht));
 }
 
 #[test]

@@ -1,6 +1,6 @@
-//! alloc_against SEED SETS: random parameter sets from SEED on, each given to the port and to the judge by BAP and by HEBAP, and every pointer
-//! compared; of a set that does not fit, and of a table that there is not, that the port refuses it and writes nothing. Prints what was
-//! compared; status 1 on a difference, or where an entry of the tables was not met.
+//! alloc_against SEED SETS: random parameter sets from SEED on, each given to the port and to the judge by BAP and by HEBAP, and every
+//! pointer compared; of a set that does not fit, and of a table that there is not, that the port refuses it and writes nothing. Prints what
+//! was compared; status 1 on a difference, or where an entry of the tables was not met.
 
 use compare_alloc::{by_judge, by_port, draw, fits, Set, BINS, TABLES};
 use judge::rng::Rng;

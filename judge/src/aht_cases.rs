@@ -412,7 +412,7 @@ impl<'s> Sections<'s> {
         answer
     }
 
-    /// A gain that can be sent in the mode.
+    /// A gain that can be sent in the mode, as a power of 2.
     fn any_gain(&mut self, gaqmod: usize) -> usize {
         match gaqmod {
             1 => self.rng.below(2),
@@ -423,44 +423,19 @@ impl<'s> Sections<'s> {
 
     /// A section made to order, for an array that is its range alone.
     fn made(&mut self, order: Order<'_>) -> Section {
-        let Order { gaqmod, bins, .. } = order;
         let mut section = Section {
-            hebap: bins.to_vec(),
+            hebap: order.bins.to_vec(),
             first: 0,
-            past: bins.len(),
+            past: order.bins.len(),
             elements: Vec::new(),
             begins: Vec::new(),
             composites: Vec::new(),
             tags: 0,
         };
-        section.element(2, gaqmod);
-        let sent = bins.iter().filter(|hebap| has_gain(gaqmod, **hebap));
-        // The gains as powers of 2, with those of no bin that fill the last word.
-        let mut powers: Vec<usize> = sent.map(|_| self.any_gain(gaqmod)).collect();
-        while gaqmod == 3 && powers.len() % 3 > 0 {
-            powers.push(self.any_gain(gaqmod));
-        }
-        if let Gains::Words(words) = order.gains {
-            powers = words
-                .iter()
-                .flat_map(|word| match gaqmod {
-                    3 => vec![word / 9, word % 9 / 3, word % 3],
-                    _ => vec![word * gaqmod],
-                })
-                .collect();
-        }
-        if gaqmod == 3 {
-            for three in powers.chunks(3) {
-                section.composites.push(section.elements.len());
-                section.element(5, 9 * three[0] + 3 * three[1] + three[2]);
-            }
-        } else if gaqmod > 0 {
-            let bits = powers.iter().map(|power| usize::from(*power > 0));
-            bits.for_each(|bit| section.element(1, bit));
-        }
-        let mut powers = powers.into_iter();
+        section.element(2, order.gaqmod);
+        let mut powers = self.gains(&order, &mut section).into_iter();
         let mut number = 0;
-        for hebap in bins {
+        for hebap in order.bins {
             section.begins.push(section.elements.len());
             match hebap {
                 0 => {}
@@ -471,36 +446,76 @@ impl<'s> Sections<'s> {
                 }
                 _ => {
                     let bits = [3, 4, 5, 6, 7, 8, 9, 10, 11, 12, 14, 16][usize::from(*hebap) - 8];
-                    let power = match has_gain(gaqmod, *hebap) {
+                    let power = match has_gain(order.gaqmod, *hebap) {
                         true => powers.next().expect("a gain"),
                         false => 0,
                     };
                     for _ in 0..BLOCKS {
-                        if power == 0 {
-                            let value = self.any_value(bits);
-                            section.element(bits, value);
-                            continue;
-                        }
-                        let small = bits - power;
-                        let tag = 1 << (small - 1);
-                        let value = match order.tags {
-                            Tags::Percent(percent) if self.rng.chance(percent) => tag,
-                            Tags::One { number: n, value } if n == number => value,
-                            _ => self.no_tag(small),
-                        };
-                        section.element(small, value);
-                        number += 1;
-                        if value == tag {
-                            let large = if power == 1 { bits - 1 } else { bits };
-                            let value = self.any_value(large);
-                            section.element(large, value);
-                            section.tags += 1;
-                        }
+                        self.mantissa(bits, power, order.tags, &mut number, &mut section);
                     }
                 }
             }
         }
         section
+    }
+
+    /// The gain words. Gives the gains as powers of 2, with those of no bin that fill the last word.
+    fn gains(&mut self, order: &Order<'_>, section: &mut Section) -> Vec<usize> {
+        let gaqmod = order.gaqmod;
+        let powers: Vec<usize> = match order.gains {
+            Gains::Any => {
+                let sent = order.bins.iter().filter(|hebap| has_gain(gaqmod, **hebap));
+                let sent = match gaqmod {
+                    3 => sent.count().next_multiple_of(3),
+                    _ => sent.count(),
+                };
+                (0..sent).map(|_| self.any_gain(gaqmod)).collect()
+            }
+            Gains::Words(words) if gaqmod == 3 => {
+                let digits = |word: &usize| [word / 9, word % 9 / 3, word % 3];
+                words.iter().flat_map(digits).collect()
+            }
+            Gains::Words(words) => words.iter().map(|word| word * gaqmod).collect(),
+        };
+        for three in powers.chunks(3).filter(|_| gaqmod == 3) {
+            section.composites.push(section.elements.len());
+            section.element(5, 9 * three[0] + 3 * three[1] + three[2]);
+        }
+        for power in powers.iter().filter(|_| gaqmod < 3) {
+            section.element(1, usize::from(*power > 0));
+        }
+        powers
+    }
+
+    /// One block's mantissa of a bin; `number` counts those that can be tags.
+    fn mantissa(
+        &mut self,
+        bits: usize,
+        power: usize,
+        tags: Tags,
+        number: &mut usize,
+        section: &mut Section,
+    ) {
+        if power == 0 {
+            let value = self.any_value(bits);
+            section.element(bits, value);
+            return;
+        }
+        let small = bits - power;
+        let tag = 1 << (small - 1);
+        let value = match tags {
+            Tags::Percent(percent) if self.rng.chance(percent) => tag,
+            Tags::One { number: n, value } if n == *number => value,
+            _ => self.no_tag(small),
+        };
+        section.element(small, value);
+        *number += 1;
+        if value == tag {
+            let large = if power == 1 { bits - 1 } else { bits };
+            let value = self.any_value(large);
+            section.element(large, value);
+            section.tags += 1;
+        }
     }
 
     /// A value, now and then one that would be a tag elsewhere.
@@ -538,7 +553,7 @@ impl<'s> Sections<'s> {
         for element in &section.elements {
             writer.put(element.width, element.value as u32);
         }
-        while writer.len() % 8 > 0 {
+        while !writer.len().is_multiple_of(8) {
             writer.put(1, self.rng.below(2) as u32);
         }
         let mut data = writer.into_bytes();

@@ -35,8 +35,8 @@ extern "C" {
    some hundreds. */
 #define FERRYSPRIG_MOST_ROWS 4067
 
-/* Rows that no header (syncinfo and bsi) exceeds. With room for them, ferrysprig_header does not give refusal 7. */
-#define FERRYSPRIG_MOST_HEADER_ROWS 41
+/* Rows that no header (syncinfo and bsi) exceeds, which is proved. With room for them, ferrysprig_header does not give refusal 7. */
+#define FERRYSPRIG_MOST_HEADER_ROWS 44
 
 /* The numbers of a row. Row i begins at number FERRYSPRIG_ROW_NUMBERS * i of the lent room. */
 enum {

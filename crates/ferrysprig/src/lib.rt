@@ -11,6 +11,8 @@ ghost use Rattle.ac3.specs.RowBound.{mostRows};
 ghost use Rattle.ac3.specs.Marked.{among};
 ghost use Rattle.burst.specs.Answers as bursts;
 ghost use Rattle.edits.specs.Edits as edits;
+ghost use Rattle.aht.specs.Aht.{ahtOf};
+ghost use Rattle.ferrysprig.specs.Aht.{ahtNumbers};
 ghost use Rattle.ferrysprig.specs.Bursts.{burstInOrder, burstNumbers, burstTold};
 ghost use Rattle.ferrysprig.specs.Numbers.{flag, inOrder, answerNumbers, told};
 ghost use Rattle.ferrysprig.specs.Promise.{PromisedNumbers};
@@ -166,4 +168,22 @@ pub extern "C" fn ferrysprig_set(
     ensures { λ r. ⌜ (r, now (capture .exit)) ≡ edits.set (now (capture .entry)) place position width value ⌝ }
 {
     edits::set(capture, place, position, width, value)
+}
+
+// Walks over an AHT section from bit `at` on, with the bins from first up to past, where nothing may end past bit `end`, and writes the
+// answer's numbers.
+#[no_mangle]
+pub extern "C" fn ferrysprig_aht(
+    bytes: &[u8],
+    at: usize,
+    end: usize,
+    hebap: &[u8],
+    first: usize,
+    past: usize,
+    answer: &mut [usize; 3],
+)
+    ensures { λ _. ⌜ now (answer .exit) ≡ ahtNumbers (ahtOf (now (bytes .entry)) at end (now (hebap .entry)) first past) ⌝ }
+{
+    let walked = aht::aht(bytes, at, end, hebap, first, past);
+    *answer = [walked.refusal as usize, walked.end, walked.tags];
 }

@@ -34,6 +34,9 @@ extern "C" {
    some hundreds. */
 #define FERRYSPRIG_MOST_ROWS 4067
 
+/* Rows that no header (syncinfo and bsi) exceeds, which is proved. With room for them, ferrysprig_header does not give refusal 7. */
+#define FERRYSPRIG_MOST_HEADER_ROWS 44
+
 /* The numbers of a row. Row i begins at number FERRYSPRIG_ROW_NUMBERS * i of the lent room. */
 enum {
     FERRYSPRIG_ROW_NAME = 0,      /* 1 to 111, see FERRYSPRIG_NAMES */
@@ -116,7 +119,8 @@ enum {
     /* 111 */ "mantissas" \
 }
 
-/* What each refusal means: 1 to 23 of a frame, 28 and 30 to 34 of a burst, 57 to 59 of a value to be set. (No others are given.) */
+/* What each refusal means: 1 to 23 of a frame, 24 of a header answer, 28 and 30 to 34 of a burst, 57 to 59 of a value to be set. (No others
+   are given.) */
 #define FERRYSPRIG_MEANINGS { \
     /*  0 */ "accepted", \
     /*  1 */ "the input has fewer than 6 bytes", \
@@ -142,7 +146,8 @@ enum {
     /* 21 */ "block 0 has rematstr 0", \
     /* 22 */ "block 0 has baie 0", \
     /* 23 */ "block 0 has snroffste 0", \
-    /* 24 */ "", "", "", "", \
+    /* 24 */ "the header answer does not fit the input", \
+    /* 25 */ "", "", "", \
     /* 28 */ "the output is too short", \
     /* 29 */ "", \
     /* 30 */ "the burst is not 6,144 bytes", \
@@ -169,6 +174,36 @@ enum {
    early, and at 6 the answer's last two numbers say what did not fit. */
 void ferrysprig_parse(const uint8_t *capture, size_t capture_len, size_t place, int32_t *rows, size_t rows_len,
                       int32_t answer[FERRYSPRIG_ANSWER_NUMBERS]);
+
+/* Header and blocks apart: where only syncinfo and bsi are needed, the header is read alone; where more is, the blocks follow. */
+
+/* The numbers of an answer about a header. From FERRYSPRIG_HEADER_ANSWER_BYTES on they are 0 on a refusal; yes is 1. */
+enum {
+    FERRYSPRIG_HEADER_ANSWER_REFUSAL = 0, /* 0: the header was read; else 1 to 5 or 7, see FERRYSPRIG_MEANINGS */
+    FERRYSPRIG_HEADER_ANSWER_ROWS = 1,    /* how many rows were written, on a refusal too */
+    FERRYSPRIG_HEADER_ANSWER_BIT = 2,     /* the first bit not yet read: where block 0 starts, if the header was read */
+    FERRYSPRIG_HEADER_ANSWER_NAME = 3,    /* as in the answer about a frame: 0, since every header fits its frame */
+    FERRYSPRIG_HEADER_ANSWER_BLOCK = 4,   /* and -1 */
+    FERRYSPRIG_HEADER_ANSWER_BYTES = 5,   /* the frame's length: the next frame starts so many bytes on */
+    FERRYSPRIG_HEADER_ANSWER_BSID = 6,
+    FERRYSPRIG_HEADER_ANSWER_ACMOD = 7,
+    FERRYSPRIG_HEADER_ANSWER_LFEON = 8,
+    FERRYSPRIG_HEADER_ANSWER_FSCOD = 9
+};
+#define FERRYSPRIG_HEADER_ANSWER_NUMBERS 10
+
+/* Reads the header of the frame at byte `place` of `capture`, through addbsi, into the lent `rows`: the rows that ferrysprig_parse writes
+   first, in the same room, with the refusals that it gives as far as there. The frame must be whole (refusal 4), but what follows the
+   header is not looked at. Everything else that is said of ferrysprig_parse holds here. */
+void ferrysprig_header(const uint8_t *capture, size_t capture_len, size_t place, int32_t *rows, size_t rows_len,
+                       int32_t answer[FERRYSPRIG_HEADER_ANSWER_NUMBERS]);
+
+/* Does what ferrysprig_parse does, and answers the same, if `header` is what ferrysprig_header answers to the same capture, place and room,
+   and is no refusal. It is not trusted: the header is read again, and where any of the ten numbers differs, or they are a refusal, the
+   answer is refusal 24 with 0 rows, and no number of `rows` is touched. (The ten numbers are all that is compared: those of another input
+   or room, if they are the same, are taken, and the header's rows are written afresh.) `rows` and `answer` overlap nothing. */
+void ferrysprig_blocks(const uint8_t *capture, size_t capture_len, size_t place, int32_t *rows, size_t rows_len,
+                       const int32_t header[FERRYSPRIG_HEADER_ANSWER_NUMBERS], int32_t answer[FERRYSPRIG_ANSWER_NUMBERS]);
 
 /* Whether the n bits of x from bit a on are those of y from bit b on, most significant bit of a byte first. Where either range ends past
    its bytes, or at a bit that 64 bits cannot count, they are not: the answer is false. A range of no bits ends where it starts, so it

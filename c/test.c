@@ -161,6 +161,55 @@ static void try_frames(void) {
     holds("block 5's mantissas past the frame", refused_at(6, 97, 1017) && unfit(111, 5));
 }
 
+/* Whether an answer about a header is these ten numbers, with the numbers past its rows, and past the answer, untouched. */
+static bool header_is(const int32_t expected[FERRYSPRIG_HEADER_ANSWER_NUMBERS]) {
+    return memcmp(answer, expected, FERRYSPRIG_HEADER_ANSWER_NUMBERS * sizeof *answer) == 0
+        && answer[FERRYSPRIG_HEADER_ANSWER_NUMBERS] == UNTOUCHED && untouched_from(WIDTH * expected[FERRYSPRIG_HEADER_ANSWER_ROWS]);
+}
+
+/* Whether `blocks` refuses these ten numbers with 24 for the smallest frame, and touches no row. */
+static bool not_taken(const uint8_t *frame, size_t place, size_t room_len, const int32_t *header) {
+    mark();
+    ferrysprig_blocks(frame, 128, place, rows, room_len, header, answer);
+    return refused(24, 0, 0);
+}
+
+static void try_apart(void) {
+    static uint8_t frame[128] = {0x0B, 0x77, 0x00, 0x00, 0x00, 0x40, 0x20, 0x00, 0x0B, 0x00, 0x1F, 0x3E, 0x7C, 0xF9, 0xF3, 0xE2, 0x00, 0x20};
+    const int32_t whole[] = {0, 17, 65, 0, -1, 128, 8, 1, 0, 0};
+    const int32_t of_example[] = {3, 4, 40, 0, -1, 0, 0, 0, 0, 0};
+    const int32_t full[] = {7, 5, 45, 0, -1, 0, 0, 0, 0, 0};
+    const int32_t nothing[] = {1, 0, 0, 0, -1, 0, 0, 0, 0, 0};
+    static int32_t parsed[200 * WIDTH], in_turn[200 * WIDTH];
+    int32_t header[FERRYSPRIG_HEADER_ANSWER_NUMBERS], of_parse[FERRYSPRIG_ANSWER_NUMBERS];
+    mark();
+    ferrysprig_header(NULL, 0, 0, NULL, 0, answer);
+    holds("the header of nothing at all", header_is(nothing));
+    mark();
+    ferrysprig_header(example, sizeof example, 0, rows, ROOM, answer);
+    holds("the header of the example", header_is(of_example));
+    mark();
+    ferrysprig_header(frame, sizeof frame, 0, rows, ROOM, answer);
+    holds("a header without room", header_is(full));
+    ferrysprig_header(frame, sizeof frame, 0, in_turn, sizeof in_turn / sizeof *in_turn, header);
+    holds("a header", memcmp(header, whole, sizeof whole) == 0 && in_turn[16 * WIDTH + FERRYSPRIG_ROW_NAME] == 46
+              && in_turn[17 * WIDTH] == 0);
+    memset(in_turn, 0, sizeof in_turn);
+    ferrysprig_parse(frame, sizeof frame, 0, parsed, sizeof parsed / sizeof *parsed, of_parse);
+    ferrysprig_blocks(frame, sizeof frame, 0, in_turn, sizeof in_turn / sizeof *in_turn, header, answer);
+    holds("the blocks after it", of_parse[FERRYSPRIG_ANSWER_REFUSAL] == 0 && of_parse[FERRYSPRIG_ANSWER_ROWS] == 95
+              && memcmp(answer, of_parse, sizeof of_parse) == 0 && memcmp(parsed, in_turn, sizeof parsed) == 0);
+    bool none_taken = true;
+    for (int i = 0; i < FERRYSPRIG_HEADER_ANSWER_NUMBERS; i++) {
+        header[i]++;
+        none_taken = none_taken && not_taken(frame, 0, ROOM, header);
+        header[i] = whole[i];
+    }
+    holds("another number among the ten", none_taken);
+    holds("the header of another room, of a refusal, of another place", not_taken(frame, 0, ROOM, whole) && not_taken(frame, 0, ROOM, full)
+              && not_taken(frame, 1, ROOM, whole) && not_taken(frame, SIZE_MAX, ROOM, nothing));
+}
+
 static void try_range_eq(void) {
     const uint8_t moved[] = {0xF0, 0xB7, 0x70, 0x0F}; /* the sync word, four bits on */
     holds("equal bits at other places", ferrysprig_range_eq(example, 6, 0, moved, 4, 4, 23));
@@ -254,10 +303,11 @@ static void try_texts(void) {
     holds("roles by their numbers", strcmp(roles[FERRYSPRIG_ROLE_FRAME_SIZE], "FrameSize") == 0
               && strcmp(roles[FERRYSPRIG_ROLE_MANTISSAS], "Mantissas") == 0);
     holds("meanings by their numbers", strcmp(meanings[0], "accepted") == 0 && strcmp(meanings[5], "bsid is above 8") == 0
-              && strcmp(meanings[23], "block 0 has snroffste 0") == 0 && strcmp(meanings[33], "a byte after the frame is not 0") == 0
+              && strcmp(meanings[23], "block 0 has snroffste 0") == 0
+              && strcmp(meanings[24], "the header answer does not fit the input") == 0 && strcmp(meanings[33], "a byte after the frame is not 0") == 0
               && strcmp(meanings[57], "the width is not 1 to 16") == 0);
     bool empty = meanings[29][0] == '\0';
-    for (int i = 24; i < 57; i++)
+    for (int i = 25; i < 57; i++)
         empty = empty && (i == 28 || (i >= 30 && i <= 34) || meanings[i][0] == '\0');
     holds("no meanings where there is no refusal", empty);
 }
@@ -268,14 +318,19 @@ static uint8_t stream[65536];
 static size_t stream_len;
 static ucontext_t here, there;
 
-/* Parses a stream, or writes its frames as bursts and reads those. */
-static bool as_bursts;
+/* Parses a stream; or reads each header and then the blocks; or writes its frames as bursts and reads those. */
+static enum { WHOLE, APART, AS_BURSTS, WAYS } way;
 
 static void call(void) {
     static uint8_t back[FERRYSPRIG_MOST_BYTES];
+    int32_t header[FERRYSPRIG_HEADER_ANSWER_NUMBERS];
     size_t place = 0, numbers = sizeof room / sizeof *room;
     do {
-        if (as_bursts) {
+        if (way == APART) {
+            ferrysprig_header(stream, stream_len, place, room, numbers, header);
+            ferrysprig_blocks(stream, stream_len, place, room, numbers, header, answer);
+            place += (size_t)answer[FERRYSPRIG_ANSWER_BYTES];
+        } else if (way == AS_BURSTS) {
             ferrysprig_burst_write(stream, stream_len, place, room, numbers, out, sizeof out, answer);
             if (answer[FERRYSPRIG_BURST_ANSWER_REFUSAL] == 0)
                 ferrysprig_burst_read(out, FERRYSPRIG_BURST_BYTES, room, numbers, back, sizeof back, answer);
@@ -310,8 +365,7 @@ static void try_stack(int files, char **names) {
         all_read = all_read && stream_len > 0;
         if (in)
             fclose(in);
-        for (int bursts = 0; bursts < 2; bursts++) {
-            as_bursts = bursts;
+        for (way = WHOLE; way < WAYS; way++) {
             size_t used = stack_used();
             most = used > most ? used : most;
         }
@@ -324,6 +378,7 @@ static void try_stack(int files, char **names) {
 int main(int argc, char **argv) {
     try_calls();
     try_frames();
+    try_apart();
     try_range_eq();
     try_edits();
     try_bursts();

@@ -64,5 +64,26 @@ pub mod answer_at {
     pub const BLOCK: usize = 25;
 }
 
+/// The numbers of an answer about the header.
+pub const HEADER_ANSWER: usize = 10;
+
+/// Which number of an answer about the header is which.
+pub mod header_at {
+    pub const REFUSAL: usize = 0;
+    pub const ROWS: usize = 1;
+    pub const BIT: usize = 2;
+    /// Name and block of what did not fit, as in a whole answer.
+    pub const NAME: usize = 3;
+    pub const BLOCK: usize = 4;
+    /// From here on the numbers are all 0 on a refusal.
+    pub const BYTES: usize = 5;
+    pub const BSID: usize = 6;
+    pub const ACMOD: usize = 7;
+    pub const LFEON: usize = 8;
+    pub const FSCOD: usize = 9;
+}
+
+pub type HeaderAnswer = [i32; HEADER_ANSWER];
+
 /// An answer about a burst: its numbers are refusal, rows of the parse, bytes written.
 pub type BurstAnswer = [i32; 3];

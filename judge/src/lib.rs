@@ -38,6 +38,8 @@ pub mod syntax;
 pub mod tables;
 
 pub mod agree;
+pub mod apart;
+pub mod apart_cases;
 pub mod burst;
 pub mod burst_cases;
 pub mod cases;

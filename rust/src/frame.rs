@@ -133,11 +133,12 @@ impl<'a> FrameRef<'a> {
     }
 }
 
-/// Why a frame was not accepted, and how far it was read.
+/// Why a frame, or its header, was not accepted, and how far it was read.
 #[derive(Clone, Debug, PartialEq, Eq)]
 #[non_exhaustive]
 pub struct Refusal {
-    /// 1 to 23.
+    /// 1 to 23; of a header alone 1 to 5 or 7. [`blocks_into`](crate::blocks_into) gives 24, with nothing read, where the header that it is
+    /// given is another.
     pub number: u8,
     /// What was read before, end to end from bit 0. The last one has the bad value at refusals 2, 5, 8, 11, 16 to 19 and 21 to 23. At 3 it
     /// is one of the last two, fscod and frmsizecod; at 9 both of them together, cplbegf and cplendf. At 10, 12 to 15 and 20 the last one is
@@ -159,12 +160,11 @@ pub struct Unfit {
     pub block: i8,
 }
 
-/// What did not fit, in an answer.
-pub(crate) fn unfit(answer: &Answer) -> Option<Unfit> {
-    let name = answer[answer_at::NAME];
+/// What did not fit, by its numbers in an answer.
+pub(crate) fn unfit(name: i32, block: i32) -> Option<Unfit> {
     (name != 0).then(|| Unfit {
         name: name_of(name),
-        block: known(answer[answer_at::BLOCK]),
+        block: known(block),
     })
 }
 
@@ -197,7 +197,6 @@ impl std::error::Error for Refusal {}
 #[cfg(test)]
 mod tests {
     use super::*;
-    use crate::layout::ANSWER_NUMBERS;
     use crate::REFUSALS;
 
     fn refusal(number: u8) -> Refusal {
@@ -223,16 +222,12 @@ mod tests {
 
     #[test]
     fn what_did_not_fit_is_said() {
-        let mut answer = [0; ANSWER_NUMBERS];
-        answer[answer_at::BLOCK] = -1;
-        assert_eq!(unfit(&answer), None);
+        assert_eq!(unfit(0, -1), None);
         for (number, name, block, place) in [
             (111, "mantissas", 5, "block 5"),
             (1, "syncword", -1, "the header"),
         ] {
-            answer[answer_at::NAME] = number;
-            answer[answer_at::BLOCK] = block.into();
-            let told = unfit(&answer);
+            let told = unfit(number, block.into());
             assert_eq!(told, Some(Unfit { name, block }));
             let past = Refusal {
                 unfit: told,
@@ -244,8 +239,16 @@ mod tests {
     }
 
     #[test]
+    fn another_header_has_its_text() {
+        assert_eq!(
+            refusal(24).meaning(),
+            "the header answer does not fit the input"
+        );
+    }
+
+    #[test]
     fn other_numbers_are_no_refusals() {
-        for number in [0, REFUSALS.len() as u8 + 1, 255] {
+        for number in [0, 25, 255] {
             assert_eq!(refusal(number).meaning(), "no refusal has this number");
         }
     }

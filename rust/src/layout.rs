@@ -27,6 +27,10 @@ pub type Row = [i32; ROW_NUMBERS];
 /// given.
 pub const MOST_ROWS: usize = 4067;
 
+/// Rows that no header exceeds (proved: crates/ac3/specs/Apart.antt; the longest has three fewer). With room for them, a header is not
+/// refused with 7.
+pub const MOST_HEADER_ROWS: usize = 44;
+
 /// Bytes that no frame exceeds.
 pub const MOST_BYTES: usize = 3840;
 
@@ -58,6 +62,29 @@ pub mod answer_at {
 }
 
 pub type Answer = [i32; ANSWER_NUMBERS];
+
+/// The numbers of an answer about a header.
+pub const HEADER_ANSWER_NUMBERS: usize = 10;
+
+/// Which number of an answer about a header is which.
+pub mod header_answer_at {
+    /// 0 if the header was read.
+    pub const REFUSAL: usize = 0;
+    /// How many rows were written.
+    pub const ROWS: usize = 1;
+    /// The first bit not yet read.
+    pub const BIT: usize = 2;
+    /// As in an answer about a frame.
+    pub const NAME: usize = 3;
+    pub const BLOCK: usize = 4;
+    pub const BYTES: usize = 5;
+    pub const BSID: usize = 6;
+    pub const ACMOD: usize = 7;
+    pub const LFEON: usize = 8;
+    pub const FSCOD: usize = 9;
+}
+
+pub type HeaderAnswer = [i32; HEADER_ANSWER_NUMBERS];
 
 /// The bytes of a burst.
 pub const BURST_BYTES: usize = 6144;

@@ -39,6 +39,26 @@
 //! # Ok::<(), ferrysprig::Refusal>(())
 //! ```
 //!
+//! # Headers alone
+//!
+//! Monitoring needs only what stands before the blocks: levels, modes, flags. [`header`] and [`Parser::header_at`] read that far and no
+//! further, for a small part of the cost (docs/SPEED.md); [`Parser::blocks_at`] goes on, and sees that the header is still the same.
+//!
+//! ```
+//! use ferrysprig::{Parser, Role};
+//!
+//! # let stream = include_bytes!("../../judge/frames/header-mix-levels.ac3");
+//! let mut parser = Parser::new();
+//! let mut place = 0;
+//! while place < stream.len() {
+//!     let header = parser.header_at(stream, place)?;
+//!     assert_eq!(header.value(Role::Dialnorm(0)), Some(31));
+//!     place += header.summary.bytes;
+//! }
+//! # assert_eq!(place, stream.len());
+//! # Ok::<(), ferrysprig::Refusal>(())
+//! ```
+//!
 //! # Edits
 //!
 //! [`Field::editable`] says whether a field's value may be changed without changing any other field, [`edit::set`] writes another value.
@@ -104,6 +124,7 @@ pub mod burst;
 pub mod edit;
 mod field;
 mod frame;
+mod header;
 mod layout;
 mod names;
 mod parser;
@@ -111,9 +132,12 @@ mod raw;
 
 pub use field::{Field, Fields};
 pub use frame::{Frame, FrameRef, Refusal, Summary, Unfit};
-pub use layout::{MOST_BYTES, MOST_ROWS, ROW_NUMBERS};
+pub use header::{Header, HeaderRef, HeaderSummary};
+pub use layout::{MOST_BYTES, MOST_HEADER_ROWS, MOST_ROWS, ROW_NUMBERS};
 pub use names::{Role, NAMES, REFUSALS};
-pub use parser::{parse, parse_at, parse_into, Parser};
+pub use parser::{
+    blocks_into, header, header_at, header_into, parse, parse_at, parse_into, Parser,
+};
 
 /// True when bits `[a, a+n)` of `x` equal bits `[b, b+n)` of `y`, most significant bit of a byte first: what an editor asks of the spans
 /// that it must not change. Where either range ends past its bytes the answer is false (the original panics there); a range of no bits ends

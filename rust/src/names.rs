@@ -17,7 +17,7 @@ pub const NAMES: [&str; 111] = [
     "mantissas",
 ];
 
-/// What each refusal means; number n stands at place n - 1.
+/// What each refusal of a frame means; number n stands at place n - 1.
 pub const REFUSALS: &[&str] = &[
     "the input has fewer than 6 bytes",
     "the sync word is not 0x0B77",
@@ -44,8 +44,14 @@ pub const REFUSALS: &[&str] = &[
     "block 0 has snroffste 0",
 ];
 
-/// What a frame's refusal means, by its number.
+/// The refusal of a header answer, given to the blocks, that is not the header's.
+const OTHER_HEADER: u8 = 24;
+
+/// What a refusal of a frame, or of a header answer, means, by its number.
 pub(crate) fn meaning(refusal: u8) -> &'static str {
+    if refusal == OTHER_HEADER {
+        return "the header answer does not fit the input";
+    }
     usize::from(refusal)
         .checked_sub(1)
         .and_then(|n| REFUSALS.get(n))

@@ -1,8 +1,8 @@
 //! The archive's functions (c/ferrysprig.h) as safe ones. All unsafe code of the crate stands here; compare/ takes this file, too.
 
 use crate::layout::{
-    answer_at, burst_answer_at, Answer, BurstAnswer, ANSWER_NUMBERS, BURST_ANSWER_NUMBERS,
-    ROW_NUMBERS,
+    answer_at, burst_answer_at, header_answer_at, Answer, BurstAnswer, HeaderAnswer,
+    ANSWER_NUMBERS, BURST_ANSWER_NUMBERS, HEADER_ANSWER_NUMBERS, ROW_NUMBERS,
 };
 
 extern "C" {
@@ -12,6 +12,23 @@ extern "C" {
         place: usize,
         rows: *mut i32,
         rows_len: usize,
+        answer: *mut Answer,
+    );
+    fn ferrysprig_header(
+        capture: *const u8,
+        capture_len: usize,
+        place: usize,
+        rows: *mut i32,
+        rows_len: usize,
+        answer: *mut HeaderAnswer,
+    );
+    fn ferrysprig_blocks(
+        capture: *const u8,
+        capture_len: usize,
+        place: usize,
+        rows: *mut i32,
+        rows_len: usize,
+        header: *const HeaderAnswer,
         answer: *mut Answer,
     );
     fn ferrysprig_range_eq(
@@ -68,14 +85,58 @@ pub fn parse<'a>(capture: &[u8], place: usize, rows: &'a mut [i32]) -> (Answer, 
             &mut answer,
         );
     }
-    // A count is a length only if it fits the room. It always does, which is proved; that the archive is the proved one is not.
-    let written = usize::try_from(answer[answer_at::ROWS])
+    (answer, rows_written(answer[answer_at::ROWS], rows))
+}
+
+/// Reads the header of the frame at byte `place` of `capture` into the lent `rows`; the answer, and the rows that it says were written.
+pub fn header<'a>(capture: &[u8], place: usize, rows: &'a mut [i32]) -> (HeaderAnswer, &'a [i32]) {
+    let mut answer = [0; HEADER_ANSWER_NUMBERS];
+    // SAFETY: as in `parse`.
+    unsafe {
+        ferrysprig_header(
+            capture.as_ptr(),
+            capture.len(),
+            place,
+            rows.as_mut_ptr(),
+            rows.len(),
+            &mut answer,
+        );
+    }
+    let written = rows_written(answer[header_answer_at::ROWS], rows);
+    (answer, written)
+}
+
+/// Parses as `parse` does, if `header` is what `header` answers to the same call; else the refusal is 24. The answer, and the rows that it
+/// says were written.
+pub fn blocks<'a>(
+    capture: &[u8],
+    place: usize,
+    rows: &'a mut [i32],
+    header: &HeaderAnswer,
+) -> (Answer, &'a [i32]) {
+    let mut answer = [0; ANSWER_NUMBERS];
+    // SAFETY: as in `parse`; `header` is an array that lives through the call, and is not written to.
+    unsafe {
+        ferrysprig_blocks(
+            capture.as_ptr(),
+            capture.len(),
+            place,
+            rows.as_mut_ptr(),
+            rows.len(),
+            header,
+            &mut answer,
+        );
+    }
+    (answer, rows_written(answer[answer_at::ROWS], rows))
+}
+
+/// The rows that an answer says were written. A count is a length only if it fits the room. It always does, which is proved; that the
+/// archive is the proved one is not.
+fn rows_written(count: i32, rows: &[i32]) -> &[i32] {
+    usize::try_from(count)
         .ok()
-        .and_then(|count| rows.get(..count.checked_mul(ROW_NUMBERS)?));
-    (
-        answer,
-        written.expect("libferrysprig.a wrote more rows than there is room for"),
-    )
+        .and_then(|count| rows.get(..count.checked_mul(ROW_NUMBERS)?))
+        .expect("libferrysprig.a wrote more rows than there is room for")
 }
 
 pub fn range_eq(x: &[u8], a: usize, y: &[u8], b: usize, n: usize) -> bool {

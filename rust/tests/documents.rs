@@ -6,9 +6,15 @@ mod files;
 mod layout;
 
 use ferrysprig::burst::{self, Refusal};
-use ferrysprig::{edit, parse, Field, Role, MOST_BYTES, MOST_ROWS, NAMES, REFUSALS, ROW_NUMBERS};
+use ferrysprig::{
+    blocks_into, edit, header, parse, Field, Role, MOST_BYTES, MOST_HEADER_ROWS, MOST_ROWS, NAMES,
+    REFUSALS, ROW_NUMBERS,
+};
 use files::text;
-use layout::{answer_at, burst_answer_at, row_at, ANSWER_NUMBERS, BURST_ANSWER_NUMBERS};
+use layout::{
+    answer_at, burst_answer_at, header_answer_at, row_at, ANSWER_NUMBERS, BURST_ANSWER_NUMBERS,
+    HEADER_ANSWER_NUMBERS,
+};
 
 #[test]
 fn names_are_those_of_the_list() {
@@ -69,6 +75,10 @@ fn texts_are_those_of_the_header() {
     assert_eq!(of_frames, REFUSALS);
     let mut said = vec![""; of_others.len()];
     let mut say = |number: u8, meaning| said[usize::from(number) - 1 - REFUSALS.len()] = meaning;
+    let stream = files::frame("fixed-2_0.ac3");
+    let told = header(&stream).unwrap().summary;
+    let other_header = blocks_into(&stream, 1, &mut [], &told).unwrap_err();
+    say(other_header.number, other_header.meaning());
     for refusal in [
         Refusal::NotABurst,
         Refusal::WrongWords,
@@ -93,13 +103,18 @@ fn texts_are_those_of_the_header() {
 fn numbers_are_those_of_the_header() {
     assert_eq!(ROW_NUMBERS, number("FERRYSPRIG_ROW_NUMBERS"));
     assert_eq!(ANSWER_NUMBERS, number("FERRYSPRIG_ANSWER_NUMBERS"));
+    let of_header = number("FERRYSPRIG_HEADER_ANSWER_NUMBERS");
+    assert_eq!(HEADER_ANSWER_NUMBERS, of_header);
     let of_burst = number("FERRYSPRIG_BURST_ANSWER_NUMBERS");
     assert_eq!(BURST_ANSWER_NUMBERS, of_burst);
     assert_eq!(MOST_ROWS, number("FERRYSPRIG_MOST_ROWS"));
+    assert_eq!(MOST_HEADER_ROWS, number("FERRYSPRIG_MOST_HEADER_ROWS"));
     assert_eq!(MOST_BYTES, number("FERRYSPRIG_MOST_BYTES"));
     assert_eq!(burst::BYTES, number("FERRYSPRIG_BURST_BYTES"));
     let proved = text("crates/ac3/specs/RowBound.antt");
     assert!(proved.contains(&format!("\nmostRows = {MOST_ROWS}\n")));
+    let of_headers = text("crates/ac3/specs/Apart.antt");
+    assert!(of_headers.contains(&format!("\nmostHeaderRows = {MOST_HEADER_ROWS}\n")));
     let version = env!("CARGO_PKG_VERSION");
     assert!(text("c/ferrysprig.h").contains(&format!("#define FERRYSPRIG_VERSION \"{version}\"\n")));
     let of_version = version
@@ -150,6 +165,18 @@ fn places_are_those_of_the_header() {
         ("NAME", answer_at::NAME),
         ("BLOCK", answer_at::BLOCK),
     ];
+    let header = [
+        ("REFUSAL", header_answer_at::REFUSAL),
+        ("ROWS", header_answer_at::ROWS),
+        ("BIT", header_answer_at::BIT),
+        ("NAME", header_answer_at::NAME),
+        ("BLOCK", header_answer_at::BLOCK),
+        ("BYTES", header_answer_at::BYTES),
+        ("BSID", header_answer_at::BSID),
+        ("ACMOD", header_answer_at::ACMOD),
+        ("LFEON", header_answer_at::LFEON),
+        ("FSCOD", header_answer_at::FSCOD),
+    ];
     let burst = [
         ("REFUSAL", burst_answer_at::REFUSAL),
         ("ROWS", answer_at::ROWS),
@@ -161,6 +188,7 @@ fn places_are_those_of_the_header() {
     };
     assert_eq!(places("FERRYSPRIG_ROW_"), own(&row));
     assert_eq!(places("FERRYSPRIG_ANSWER_"), own(&answer));
+    assert_eq!(places("FERRYSPRIG_HEADER_ANSWER_"), own(&header));
     assert_eq!(places("FERRYSPRIG_BURST_ANSWER_"), own(&burst));
 }
 

@@ -20,6 +20,7 @@ pub mod Sent
 pub mod SentExample
 pub mod Start
 pub mod Told
-pub mod Apart
+pub mod HeaderRows
 pub mod Later
+pub mod HeaderAndBlocks
 pub mod Proved

@@ -43,7 +43,7 @@ module _ (k : ℕ) where
       go false later h = later h
 
   -- with room for k rows more
-  abbrev roomier : Spot → Spot
+  abbrev pub roomier : Spot → Spot
   roomier p = record { size = p .size; limit = p .limit; at = p .at; left = p .left + k }
 
   beyond-roomier : (w : ℕ) (p : Spot) → 0 < p .left → beyond w (roomier p) ≡ roomier (beyond w p)
@@ -53,7 +53,7 @@ module _ (k : ℕ) where
       one-less = omega arith
 
   module _ {A : Type 0} where
-    abbrev more : Result A → Result A
+    abbrev pub more : Result A → Result A
     more r = record { rows = r .rows; spot = roomier (r .spot); end = r .end }
 
     module _ (c d : Check) (p : Spot) (same : ¬ Full c → d ≡ c) where

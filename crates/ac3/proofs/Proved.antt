@@ -4,7 +4,7 @@ use Rattle.syntax.proofs.Later.{only-what-was-read}
 use Rattle.ac3.specs.Frame.{syncframe}
 use Rattle.ac3.specs.Promise.{input, roomFor}
 use Rattle.ac3.specs.Proved.{Proved}
-use Rattle.ac3.proofs.Apart.{header-and-blocks}
+use Rattle.ac3.proofs.HeaderAndBlocks.{header-and-blocks}
 use Rattle.ac3.proofs.Coordinates.{coordinates-idle}
 use Rattle.ac3.proofs.Demand3.{ac3-cover, ac3-demand3}
 use Rattle.ac3.proofs.Editing.{edit-freely}

@@ -1,5 +1,5 @@
--- Header and blocks apart: the header by itself, and the six blocks for one who holds a header answer. `proofs/Apart.antt` proves that the
--- whole parse is both in turn, and that exactly the header's own answer is taken.
+-- Header and blocks apart: the header by itself, and the six blocks for one who holds a header answer. `HeaderAndBlocks` states
+-- that the whole parse is both in turn, and that exactly the header's own answer is taken.
 use mathlib.Core.Bool.{Bool, false, _&&_, not, cond}
 use mathlib.Core.List.{List}
 use mathlib.Core.Path.{_≡_}
@@ -14,15 +14,11 @@ use Rattle.header.specs.declared.Header.{Header}
 use Rattle.ac3.specs.Frame.{audio, noSummary, answered}
 use Rattle.ac3.specs.Promise.{Call, input, withRoom, answerTo}
 use Rattle.ac3.specs.declared.Answer.{Answer}
+use Rattle.ac3.specs.declared.HeaderAnswer.{HeaderAnswer}
 
--- refusal 0: the header was read to its end, and the bit is the first one after it
-pub record HeaderAnswer : Type 0 where
-  pub refusal : ℕ
-  pub rows : ℕ
-  pub bit : ℕ
-  pub name : ℕ
-  pub block : ℕ
-  pub header : Header
+-- no header has more rows: two programmes, bsid 6 and all that may follow a flag
+abbrev pub mostHeaderRows : ℕ
+mostHeaderRows = 44
 
 -- a refusal's header is all zeros
 abbrev pub noHeader : Header
@@ -56,13 +52,16 @@ sameAnswer a b =
 abbrev pub unfit : Answer
 unfit = record { refusal = 24; rows = 0; bit = 0; name = 0; block = 255; summary = noSummary }
 
--- The header is read again. A claim that is a refusal, or another answer than that, is 24, and the room is as it was; else the blocks
--- follow.
-unfoldable pub blocksTo : Call → (claim : HeaderAnswer) → Answer × List ℤ
-blocksTo c claim =
-    cond (eqb (claim .refusal) 0 && sameAnswer claim (headerTo c .0))
-    (answered (andThen (exec header (input c) (fresh (c .room))) (λ h p. exec (audio h) (input c) p)))
-    (unfit, c .room)
+-- A claim fits where it is no refusal, and is what the header, read again, is answered with.
+abbrev pub fits : Call → (claim : HeaderAnswer) → Bool
+fits c claim = eqb (claim .refusal) 0 && sameAnswer claim (headerTo c .0)
+
+-- Where it fits the header's rows are written afresh and the blocks follow; else it is 24, and the room is as it was.
+unfoldable pub afreshIf : Bool → Call → Answer × List ℤ
+afreshIf fits c = cond fits (answered (andThen (exec header (input c) (fresh (c .room))) (λ h p. exec (audio h) (input c) p))) (unfit, c .room)
+
+abbrev pub blocksTo : Call → (claim : HeaderAnswer) → Answer × List ℤ
+blocksTo c claim = afreshIf (fits c claim) c
 
 -- ---- both in turn
 
@@ -74,15 +73,3 @@ unfoldable pub inTurn : Call → Answer × List ℤ
 inTurn c =
     let h = headerTo c in
     cond (eqb (h .0 .refusal) 0) (blocksTo (withRoom (h .1) c) (h .0)) (endedAt (h .0), h .1)
-
-pub record HeaderAndBlocks : Type 0 where
-  -- the whole parse is both in turn, header refusals included
-  pub in-turn : (c : Call) → answerTo c ≡ inTurn c
-  -- in the room as it was before the header the blocks do the same
-  pub afresh : (c : Call) → headerTo c .0 .refusal ≡ 0 → blocksTo c (headerTo c .0) ≡ answerTo c
-  -- the header's own answer is taken, if it is no refusal, and no other is
-  pub takes : (c : Call) → headerTo c .0 .refusal ≡ 0 → ¬ (blocksTo c (headerTo c .0) .0 .refusal ≡ 24)
-  pub taken : (c : Call) (claim : HeaderAnswer) → ¬ (blocksTo c claim .0 .refusal ≡ 24) → (claim ≡ headerTo c .0) × (claim .refusal ≡ 0)
-  -- what is taken is answered as the whole parse is, and else nothing is written
-  pub answers : (c : Call) (claim : HeaderAnswer) → ¬ (blocksTo c claim .0 .refusal ≡ 24) → blocksTo c claim ≡ answerTo c
-  pub untouched : (c : Call) (claim : HeaderAnswer) → blocksTo c claim .0 .refusal ≡ 24 → blocksTo c claim ≡ (unfit, c .room)

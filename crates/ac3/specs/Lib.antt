@@ -18,6 +18,7 @@ pub mod OneAnswer
 pub mod Editing
 pub mod Apart
 pub mod Later
+pub mod HeaderAndBlocks
 pub mod Sound
 pub mod Tallied
 pub mod Listing

@@ -81,13 +81,17 @@ answerTo c = answer (c .capture) (c .place) (c .room)
 abbrev pub Accepted : Call → Type 0
 Accepted c = answerTo c .0 .refusal ≡ 0
 
-pub record Demand3OfAnswers : Type 0 where
+-- of whatever answers calls
+pub record Demand3Of (answers : Call → Answer × List ℤ) : Type 0 where
   -- equal values: the same rows, so the same names, positions and widths, and bits that differ only inside spans
-  pub values-decide : (c d : Call) → Accepted c → Accepted d → values (listed c) ≡ values (listed d) → Alike syncframe (input c) (input d) (roomFor c) (roomFor d)
+  pub values-decide : (c d : Call) → answers c .0 .refusal ≡ 0 → answers d .0 .refusal ≡ 0 → values (listed c) ≡ values (listed d) → Alike syncframe (input c) (input d) (roomFor c) (roomFor d)
   -- neither's values are a proper beginning of the other's, nor are its bits before audio_end
-  pub values-complete : (c d : Call) → Accepted c → Accepted d → ¬ ProperBeginning (values (listed c)) (values (listed d))
-  pub bits-complete : (c d : Call) → Accepted c → Accepted d → ¬ ProperBeginning (bitsBefore (input c) (bitOf c)) (bitsBefore (input d) (bitOf d))
+  pub values-complete : (c d : Call) → answers c .0 .refusal ≡ 0 → answers d .0 .refusal ≡ 0 → ¬ ProperBeginning (values (listed c)) (values (listed d))
+  pub bits-complete : (c d : Call) → answers c .0 .refusal ≡ 0 → answers d .0 .refusal ≡ 0 → ¬ ProperBeginning (bitsBefore (input c) (bitOf c)) (bitsBefore (input d) (bitOf d))
   -- other bits inside spans or from audio_end on, at the same length and with the same room: the same answer and the same room after it
-  pub spans-idle : (c d : Call) → Accepted c → length (input c) ≡ length (input d) → c .room ≡ d .room
+  pub spans-idle : (c d : Call) → answers c .0 .refusal ≡ 0 → length (input c) ≡ length (input d) → c .room ≡ d .room
       → Agree isSpan (input c) (input d) (listed c) (bitOf c)
-      → answerTo d ≡ answerTo c
+      → answers d ≡ answers c
+
+abbrev pub Demand3OfAnswers : Type 0
+Demand3OfAnswers = Demand3Of answerTo

@@ -7,10 +7,10 @@
 use Rattle.syntax.specs.Demand3.{Demand3}
 use Rattle.syntax.specs.Later.{OnlyWhatWasRead}
 use Rattle.syntax.specs.Rows.{Tiles}
-use Rattle.ac3.specs.Apart.{HeaderAndBlocks}
 use Rattle.ac3.specs.Coordinates.{CoordinatesIdle}
 use Rattle.ac3.specs.Editing.{EditFreely}
 use Rattle.ac3.specs.Frame.{syncframe}
+use Rattle.ac3.specs.HeaderAndBlocks.{HeaderAndBlocks}
 use Rattle.ac3.specs.Later.{LaterBytes}
 use Rattle.ac3.specs.MoreRoom.{MoreRoom}
 use Rattle.ac3.specs.OneAnswer.{OneAnswer}

@@ -1,4 +1,5 @@
 // The AC-3 syncframe as far as the end of its audio: syncinfo, bsi and six audio blocks.
+pub mod apart;
 mod audio;
 mod block;
 
@@ -14,6 +15,8 @@ use syntax::cursors::halt;
 use syntax::refusals::TOO_SHORT;
 ghost use mathlib.Core.Path.{_≡_};
 ghost use Rattle.syntax.specs.Place.{exec, fresh};
+ghost use Rattle.syntax.specs.Reads.{Goes, place};
+ghost use Rattle.header.specs.Sound.{SoundHeader};
 ghost use Rattle.ac3.specs.Frame as grammar;
 ghost use Rattle.ac3.specs.Promise.{call, Promised};
 ghost use Rattle.ac3.specs.Within.{Within};
@@ -57,6 +60,17 @@ pub struct Answer {
     pub summary: Summary,
 }
 
+// What is answered of a header by itself. Refusal 0: it was read to its end, and the bit is the first one after it. A refusal's header is
+// all zeros.
+pub struct HeaderAnswer {
+    pub refusal: u8,
+    pub rows: usize,
+    pub bit: u16,
+    pub name: u8,
+    pub block: u8,
+    pub header: Header,
+}
+
 // The answer where reading stopped: its summary is all zeros.
 fn refused(c: Cursor) -> Answer
     ensures { λ r. ⌜ r ≡ record { refusal = c .stop .number; rows = c .count; bit = c .at; name = c .stop .name; block = c .stop .block; summary = grammar.noSummary } ⌝ }
@@ -87,17 +101,12 @@ fn refused(c: Cursor) -> Answer
     }
 }
 
-// The frame at the start of s. Where the header is refused the blocks are not looked at.
-fn syncframe(s: &[u8], rows: &mut [i32]) -> Answer
-    ensures { λ r. ⌜ (r, now (rows .exit)) ≡ grammar.answered (exec grammar.syncframe (now (s .entry)) (fresh (now (rows .entry)))) ⌝ }
+// The six blocks of a frame whose header was just read: the cursor stands behind it.
+fn blocks_after(s: &[u8], rows: &mut [i32], c: Cursor, header: Header) -> Answer
+    requires { ⌜ Goes c × SoundHeader header ⌝ }
+    ensures { λ r. ⌜ (r, now (rows .exit)) ≡ grammar.answered (exec (grammar.audio header) (now (s .entry)) (place c (now (rows .entry)))) ⌝ }
 {
-    let head = header::read(s, rows, START);
-    let header = head.header;
-    let cursor = head.cursor;
-    if cursor.stop.number != 0 {
-        return refused(cursor);
-    }
-    let read = audio::audio(s, rows, cursor, header);
+    let read = audio::audio(s, rows, c, header);
     let tally = read.tally;
     let cursor = read.cursor;
     if cursor.stop.number != 0 {
@@ -118,6 +127,19 @@ fn syncframe(s: &[u8], rows: &mut [i32]) -> Answer
             tally,
         },
     }
+}
+
+// The frame at the start of s: the header, which ends it where it is refused, and then the blocks.
+fn syncframe(s: &[u8], rows: &mut [i32]) -> Answer
+    ensures { λ r. ⌜ (r, now (rows .exit)) ≡ grammar.answered (exec grammar.syncframe (now (s .entry)) (fresh (now (rows .entry)))) ⌝ }
+{
+    let head = header::read(s, rows, START);
+    let header = head.header;
+    let cursor = head.cursor;
+    if cursor.stop.number != 0 {
+        return refused(cursor);
+    }
+    blocks_after(s, rows, cursor, header)
 }
 
 // The frame that starts at a place of a capture: its rows go to the front of the room. Past the capture's end there is nothing, which is

@@ -1,5 +1,10 @@
 // The functions that Rust and C call. An exported function can take no enum and nothing that leads to one, so answers go as numbers.
+mod apart;
+
 use ac3::Answer;
+use apart::HEADER_ANSWER;
+use apart::are_taken;
+use apart::header_numbers;
 use syntax::rows::shown;
 ghost use mathlib.Core.Path.{_≡_};
 ghost use Prim.Native.Nat.{_≤_};
@@ -11,6 +16,8 @@ ghost use Rattle.ac3.specs.RowBound.{mostRows};
 ghost use Rattle.ac3.specs.Marked.{among};
 ghost use Rattle.burst.specs.Answers as bursts;
 ghost use Rattle.edits.specs.Edits as edits;
+ghost use Rattle.ac3.specs.Apart.{headerTo};
+ghost use Rattle.ferrysprig.specs.Apart.{headerTold, blocksHeld};
 ghost use Rattle.ferrysprig.specs.Bursts.{burstInOrder, burstNumbers, burstTold};
 ghost use Rattle.ferrysprig.specs.Numbers.{flag, inOrder, answerNumbers, told};
 ghost use Rattle.ferrysprig.specs.Promise.{PromisedNumbers};
@@ -91,6 +98,37 @@ pub extern "C" fn ferrysprig_parse(
     ensures { λ _. ⌜ PromisedNumbers (call (now (capture .entry)) place (now (rows .entry))) (now (answer .exit)) (now (rows .exit)) ⌝ }
 {
     *answer = numbers(ac3::parse(capture, place, rows));
+}
+
+// Reads the header of the frame at a place of a capture, as far as addbsi, and writes its answer's numbers.
+#[no_mangle]
+pub extern "C" fn ferrysprig_header(
+    capture: &[u8],
+    place: usize,
+    rows: &mut [i32],
+    answer: &mut [i32; HEADER_ANSWER],
+)
+    ensures { λ _. ⌜ (now (answer .exit), now (rows .exit)) ≡ headerTold (headerTo (call (now (capture .entry)) place (now (rows .entry)))) ⌝ }
+{
+    *answer = header_numbers(ac3::apart::header(capture, place, rows));
+}
+
+// Parses the frame at a place of a capture for one who holds ten numbers of its header. They may be any: only those that the header is
+// answered with in this very call are taken, and they are held against these before a row is written.
+#[no_mangle]
+pub extern "C" fn ferrysprig_blocks(
+    capture: &[u8],
+    place: usize,
+    rows: &mut [i32],
+    header: &[i32; HEADER_ANSWER],
+    answer: &mut [i32; ANSWER],
+)
+    ensures { λ _. ⌜ (now (answer .exit), now (rows .exit)) ≡ blocksHeld (call (now (capture .entry)) place (now (rows .entry))) (now (header .entry)) ⌝ }
+{
+    let given = *header;
+    let own = ac3::apart::header_again(capture, place, rows.len());
+    let fits = are_taken(given, own);
+    *answer = numbers(ac3::apart::afresh_if(capture, place, rows, fits));
 }
 
 // Whether the n bits of x from bit a on are those of y from bit b on. Where either range ends past its slice they are not.

@@ -1,5 +1,6 @@
 //! CUT COPY of `ddpmeta/ac3.rs`. Changed: the cursor comes from the caller, every refusal names its number of
-//! docs/FORMAT.md at its site, bands of coordinates are told, "coordinates sent" is noted, and it ends where `audio_end` is set.
+//! docs/FORMAT.md at its site, bands of coordinates are told, "coordinates sent" is noted, it is cut in two after addbsi, and it
+//! ends where `audio_end` is set.
 //!
 //! AC-3 syncframe parser, ETSI TS 102 366 V1.4.1 clause 4.3 (syncinfo, bsi, audblk, auxdata,
 //! errorcheck) with the Annex D alternate BSI for bsid 6. Every element is recorded.
@@ -7,11 +8,16 @@
 use crate::cut::blocks::{
     allocate_block, conventional, read_exponents, AllocState, ExpSet, Groups, SlotAlloc, CPL, LFE,
 };
-use crate::cut::{no, Cursor, Result, Source, Summary};
+use crate::cut::{no, Cursor, Header, Result, Source, Summary};
 use crate::syntax::Role;
 use crate::tables::{ac3_frame_words, NFCHANS};
 
 pub fn parse<S: Source>(cur: &mut Cursor<'_, S>) -> Result<Summary> {
+    let header = header(cur)?;
+    blocks(cur, header)
+}
+
+pub fn header<S: Source>(cur: &mut Cursor<'_, S>) -> Result<Header> {
     let length = cur.source.bytes();
     if length < 6 {
         return no(1, "short AC-3 frame");
@@ -116,7 +122,25 @@ pub fn parse<S: Source>(cur: &mut Cursor<'_, S>) -> Result<Summary> {
         let l = cur.get("addbsil", 6)? as usize;
         cur.span("addbsi", Role::Addbsi, (l + 1) * 8)?;
     }
+    // Cut in two here.
+    Ok(Header {
+        bytes,
+        bsid,
+        acmod,
+        lfeon,
+        fscod,
+    })
+}
 
+pub fn blocks<S: Source>(cur: &mut Cursor<'_, S>, header: Header) -> Result<Summary> {
+    let Header {
+        bytes,
+        bsid,
+        acmod,
+        lfeon,
+        fscod,
+    } = header;
+    let programs = if acmod == 0 { 2 } else { 1 };
     let nfchans = NFCHANS[acmod as usize];
     let mut st = AllocState::default();
     let mut exps: [Option<ExpSet>; 7] = Default::default();

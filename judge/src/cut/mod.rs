@@ -84,6 +84,16 @@ impl Summary {
     }
 }
 
+/// What a header leaves to the blocks.
+#[derive(Clone, Copy, Debug, PartialEq, Eq)]
+pub struct Header {
+    pub bytes: usize,
+    pub bsid: u8,
+    pub acmod: u8,
+    pub lfeon: bool,
+    pub fscod: usize,
+}
+
 /// Where bits come from: bytes that are read, or something that chooses each value as it is
 /// asked for (`draw`, `craft`).
 pub trait Source {

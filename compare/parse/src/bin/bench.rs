@@ -1,8 +1,9 @@
 //! bench FILE PASSES [WAY]: parses every frame of FILE, PASSES times, in every way or in one (for callgrind), and prints the best pass of
-//! each. The ways: `port`, the archive alone; `parser`, the Rust crate's `Parser` and the gain words by their role; `fields`, the same and
-//! every field; `parse`, the crate's `parse`, which makes a list; `rust`, the original.
+//! each. The ways: `port`, the archive alone; `header`, the archive's header alone; `apart`, its header and then its blocks; `parser`, the
+//! Rust crate's `Parser` and the gain words by their role; `fields`, the same and every field; `bsi`, `Parser` and every field of the header
+//! alone; `parse`, the crate's `parse`, which makes a list; `rust`, the original.
 
-use compare_parse::layout::{answer_at, MOST_ROWS, ROW_NUMBERS};
+use compare_parse::layout::{answer_at, header_answer_at, MOST_ROWS, ROW_NUMBERS};
 use compare_parse::raw;
 use ferrysprig::{Parser, Role};
 use judge::tables::ac3_frame_words;
@@ -50,6 +51,21 @@ fn main() {
             assert_eq!(black_box(answer)[answer_at::REFUSAL], 0);
         });
     }
+    if wanted("header") {
+        let mut rows = vec![0i32; ROW_NUMBERS * MOST_ROWS];
+        best("header", passes, &frames, |f| {
+            let (answer, _) = raw::header(black_box(f), 0, &mut rows);
+            assert_eq!(black_box(answer)[header_answer_at::REFUSAL], 0);
+        });
+    }
+    if wanted("apart") {
+        let mut rows = vec![0i32; ROW_NUMBERS * MOST_ROWS];
+        best("apart", passes, &frames, |f| {
+            let (header, _) = raw::header(black_box(f), 0, &mut rows);
+            let (answer, _) = raw::blocks(black_box(f), 0, &mut rows, &black_box(header));
+            assert_eq!(black_box(answer)[answer_at::REFUSAL], 0);
+        });
+    }
     if wanted("parser") {
         let mut parser = Parser::new();
         best("parser", passes, &frames, |f| {
@@ -64,6 +80,15 @@ fn main() {
         best("fields", passes, &frames, |f| {
             let frame = parser.parse(black_box(f)).expect("accepted");
             frame.fields.for_each(|field| {
+                black_box(&field);
+            });
+        });
+    }
+    if wanted("bsi") {
+        let mut parser = Parser::new();
+        best("bsi", passes, &frames, |f| {
+            let header = parser.header(black_box(f)).expect("accepted");
+            header.fields.for_each(|field| {
                 black_box(&field);
             });
         });

@@ -1,35 +1,22 @@
--- `ac3::syncframe` meets its contract: header and blocks are read one after the other, and what was reached is told. Assumes nothing.
-use mathlib.Core.Bool.{false}
-use lib.ListN.{replicate}
+-- `ac3::syncframe` meets its contract: header and blocks are read one after the other, and a header refusal is the frame's. Assumes nothing.
+use mathlib.Core.Path.{ap, _∙_}
 use borrow.Author.Needs.{needs}
-use Rattle.syntax.proofs.Sequence.{then, stopped}
-use Rattle.ac3.specs.Frame.{Audio, uncounted, syncframe}
-use Rattle.ac3.proofs.Told.{told-refused, told-accepted}
+use Rattle.ac3.specs.Frame.{answered}
+use Rattle.ac3.proofs.Told.{ends-there, goes-on}
 use Rattle.ac3.proofs.syncframe.Statement.{statement}
 use Rattle.ac3.proofs.syncframe.Tie as tie
 
 no-header : tie.Need-returns
-unfolding syncframe
+unfolding answered
 no-header c =
-    let t2 = c in
-    let t1 = t2 .before .before .before .before .before .before in
-    let nothing : Audio = record { header = t1 .read .result .header; tally = uncounted; end = 0 } in
-    rw (t2 .refused .ensures) (told-refused {a = nothing} (then _ (t1 .read .ensures .0) (stopped (t2 .before .if1 .taken))) (t2 .before .if1 .taken))
+    let t1 = c .before .before .before .before .before .before in
+    rw (c .refused .ensures) (ap answered (ends-there (t1 .read .ensures .0) (c .before .if1 .taken)))
 
-no-audio : tie.Need-returns-2
-unfolding syncframe
-no-audio c =
-    let t3 = c in
-    let t2 = t3 .before .before .before .before .before .before in
+blocks : tie.Need-returns-2
+blocks c =
+    let t2 = c .before in
     let t1 = t2 .before .before .before .before .before .before .before in
-    rw (t3 .refused2 .ensures) (told-refused (then _ (t1 .read .ensures .0) (t2 .audio .ensures)) (t3 .before .if2 .taken))
-
-accepted : tie.Need-returns-3
-unfolding syncframe
-accepted c =
-    let t2 = c .before .before .before .before .before in
-    let t1 = t2 .before .before .before .before .before .before .before in
-    told-accepted (then _ (t1 .read .ensures .0) (t2 .audio .ensures)) (c .if2 .left)
+    t2 .blocks-after .ensures ∙ ap answered (goes-on (t1 .read .ensures .0) (t2 .before .before .if1 .left))
 
 pub syncframe-spec : {M : Type 1} → statement M
 syncframe-spec =
@@ -39,9 +26,6 @@ syncframe-spec =
     (λ c κs. search needs)  -- refused-requires
     (λ c. search needs)  -- same-length
     no-header
-    (λ c κs. c .before .before .before .before .before .before .read .ensures .1)  -- audio-requires
-    (λ c κs. search needs)  -- refused-requires-2
+    (λ c κs. (c .before .if1 .left, c .before .before .before .before .before .before .read .ensures .1))  -- blocks-after-requires
     (λ c. search needs)  -- same-length-2
-    no-audio
-    (λ c. search needs)  -- same-length-3
-    accepted)
+    blocks)

@@ -3,7 +3,7 @@
    proved.
 
    The functions have no state: no heap, no globals, no files, no signals. Any number of threads may call them at once, each with its own
-   `rows`, `out` and `answer` (and `capture`, where it is written to). The archive needs memcpy, memmove and memset, and nothing else.
+   `rows`, `list`, `out` and `answer` (and `capture`, where it is written to). The archive needs memcpy, memmove and memset, and nothing else.
 
    An edit breaks the checksums: but for the sync word, crc1 guards the first five eighths of a frame and crc2 all of it. Whoever changes a
    field makes crc2 wrong, and crc1 too where the field stands that early, and a decoder may then drop the frame. The functions neither
@@ -27,8 +27,9 @@ extern "C" {
    others at their first use, the loader takes some 2,400 more.) */
 #define FERRYSPRIG_STACK_BYTES 16384
 
-/* Bytes that no frame exceeds. */
+/* Bytes that no frame exceeds, and those that every frame has. */
 #define FERRYSPRIG_MOST_BYTES 3840
+#define FERRYSPRIG_LEAST_BYTES 128
 
 /* Rows that no frame exceeds, which is proved, and some frames have so many. With room for them, refusal 7 is not given. Most frames have
    some hundreds. */
@@ -119,7 +120,7 @@ enum {
     /* 111 */ "mantissas" \
 }
 
-/* What each refusal means: 1 to 23 of a frame, 24 of a header answer, 28 and 30 to 34 of a burst, 57 to 59 of a value to be set. (No others
+/* What each refusal means: 1 to 23 of a frame, 24 of a header answer, 28 and 30 to 34 of a burst, 35 to 37 of a salvage, 57 to 59 of a value to be set. (No others
    are given.) */
 #define FERRYSPRIG_MEANINGS { \
     /*  0 */ "accepted", \
@@ -155,7 +156,10 @@ enum {
     /* 32 */ "the fourth word is not the frame's length in bits", \
     /* 33 */ "a byte after the frame is not 0", \
     /* 34 */ "bits 8 to 10 of the third word are not the frame's bsmod", \
-    /* 35 */ "", "", "", "", "", "", "", "", "", "", "", "", "", "", "", "", "", "", "", "", "", "", \
+    /* 35 */ "the output has too little left for a frame", \
+    /* 36 */ "no entry of the list is left", \
+    /* 37 */ "the rows do not suffice for a place of the capture", \
+    /* 38 */ "", "", "", "", "", "", "", "", "", "", "", "", "", "", "", "", "", "", "", \
     /* 57 */ "the width is not 1 to 16", \
     /* 58 */ "the field does not lie within the capture", \
     /* 59 */ "the value does not fit the width" \
@@ -249,6 +253,49 @@ void ferrysprig_burst_write(const uint8_t *capture, size_t capture_len, size_t p
    touched, and none is on a refusal. */
 void ferrysprig_burst_read(const uint8_t *burst, size_t burst_len, int32_t *rows, size_t rows_len, uint8_t *out, size_t out_len,
                            int32_t answer[FERRYSPRIG_BURST_ANSWER_NUMBERS]);
+
+/* Salvage of a broken capture: what is left of its frames, and a list of frames and gaps. */
+
+/* The numbers of an answer about a salvage. */
+enum {
+    FERRYSPRIG_SALVAGE_ANSWER_REFUSAL = 0, /* 0: the walk came to the capture's end; else 35 to 37, see FERRYSPRIG_MEANINGS */
+    FERRYSPRIG_SALVAGE_ANSWER_ENTRIES = 1, /* how many entries were written to the front of `list`, on a refusal too */
+    FERRYSPRIG_SALVAGE_ANSWER_WRITTEN = 2  /* how many bytes were written to the front of `out`, on a refusal too */
+};
+#define FERRYSPRIG_SALVAGE_ANSWER_NUMBERS 3
+
+/* The numbers of an entry. Entry i begins at number FERRYSPRIG_ENTRY_NUMBERS * i of the list. */
+enum {
+    FERRYSPRIG_ENTRY_KIND = 0,  /* FERRYSPRIG_KIND_FRAME or FERRYSPRIG_KIND_GAP */
+    FERRYSPRIG_ENTRY_PLACE = 1, /* the first byte, counted from the capture's first */
+    FERRYSPRIG_ENTRY_LENGTH = 2 /* in bytes */
+};
+#define FERRYSPRIG_ENTRY_NUMBERS 3
+
+enum {
+    FERRYSPRIG_KIND_FRAME = 0, /* a frame that parsing accepts there; its bytes were written to `out` */
+    FERRYSPRIG_KIND_GAP = 1    /* bytes at none of which parsing accepts a frame */
+};
+
+/* Entries that no list of a capture of so many bytes exceeds: no gap follows another. */
+#define FERRYSPRIG_MOST_ENTRIES(bytes) (2 * ((bytes) / FERRYSPRIG_LEAST_BYTES) + 1)
+
+/* Goes through `capture` from byte 0. Where parsing accepts a frame it is written to `out`, behind those before it, and listed; the walk
+   goes on after it. Elsewhere the walk moves one byte. What lies between frames, and before and after them, is listed as gaps. So the
+   entries lie end to end from byte 0 to the capture's end, two gaps never follow each other, and a capture without a gap comes out the
+   same. An empty capture has no entry.
+
+   The walk stops, with what it has written, at the first of these: 37 where parsing answers 7; 36 where the list has no entry left; 35
+   where `out` has too little left for a frame. At one frame this is also their order, but the gap before it is entered first, and that may
+   give 36. With room for FERRYSPRIG_MOST_ROWS rows 37 is not given; nor is 36 with FERRYSPRIG_MOST_ENTRIES(capture_len) entries, nor 35
+   with as many bytes as the capture has. After 35 or 36 the walk can go on with the part of the capture from the end of the last entry.
+
+   `rows_len`, `list_len` and `out_len` count numbers, numbers and bytes. Numbers of the list past the entries, and bytes of `out` past those
+   written, are not touched, on refusals too. `rows` is left as the parses of all places, in order, leave it. Any input is answered; `rows`,
+   `list`, `out` and `answer` overlap nothing, so a capture cannot be salvaged in place. A frame that is accepted need not be sound: what
+   parsing does not look at (mantissas, checksums, the frame's tail) may be damaged. */
+void ferrysprig_salvage(const uint8_t *capture, size_t capture_len, int32_t *rows, size_t rows_len, size_t *list, size_t list_len,
+                        uint8_t *out, size_t out_len, size_t answer[FERRYSPRIG_SALVAGE_ANSWER_NUMBERS]);
 
 #ifdef __cplusplus
 }

@@ -294,6 +294,73 @@ static void try_bursts(void) {
     holds("a burst of another data type", burst_refused(31, 0));
 }
 
+/* What a salvage is lent: two numbers more than four entries have, and a byte more than two of the frames; and one of each that is not lent. */
+enum { LIST = 4 * FERRYSPRIG_ENTRY_NUMBERS + 2, FRAMES = 2 * FERRYSPRIG_LEAST_BYTES + 1 };
+static size_t list[LIST + 1];
+static size_t salvage_answer[FERRYSPRIG_SALVAGE_ANSWER_NUMBERS + 1];
+
+/* Salvages the first bytes of a frame, a gap of three bytes, and the frame again, in these rooms. */
+static void salvage(size_t length, size_t numbers, size_t listed, size_t bytes) {
+    static const uint8_t front[] = {0x0B, 0x77, 0x00, 0x00, 0x00, 0x40, 0x20, 0x00, 0x0B, 0x00, 0x1F, 0x3E, 0x7C, 0xF9, 0xF3, 0xE2, 0x00, 0x20};
+    static uint8_t capture[2 * FERRYSPRIG_LEAST_BYTES + 3];
+    memcpy(capture, front, sizeof front);
+    memcpy(&capture[FERRYSPRIG_LEAST_BYTES + 3], front, sizeof front);
+    for (size_t i = 0; i < sizeof list / sizeof *list; i++)
+        list[i] = UNTOUCHED;
+    for (size_t i = 0; i < sizeof salvage_answer / sizeof *salvage_answer; i++)
+        salvage_answer[i] = UNTOUCHED;
+    memset(out, 0xA5, sizeof out);
+    ferrysprig_salvage(capture, length, room, numbers, list, listed, out, bytes, salvage_answer);
+}
+
+/* Whether the answer says so, the entries are the first of these three, and nothing behind them and the frames is touched. */
+static bool salvaged(size_t refusal, size_t entries, size_t written) {
+    static const size_t expected[][FERRYSPRIG_ENTRY_NUMBERS] = {
+        {FERRYSPRIG_KIND_FRAME, 0, 128}, {FERRYSPRIG_KIND_GAP, 128, 3}, {FERRYSPRIG_KIND_FRAME, 131, 128}};
+    size_t numbers = FERRYSPRIG_ENTRY_NUMBERS * entries;
+    bool same = memcmp(list, expected, numbers * sizeof *list) == 0;
+    for (size_t i = numbers; i < sizeof list / sizeof *list; i++)
+        same = same && list[i] == UNTOUCHED;
+    for (size_t i = 0; i < sizeof out; i++)
+        same = same && (out[i] == 0xA5) == (i >= written);
+    return same && salvage_answer[FERRYSPRIG_SALVAGE_ANSWER_REFUSAL] == refusal
+        && salvage_answer[FERRYSPRIG_SALVAGE_ANSWER_ENTRIES] == entries && salvage_answer[FERRYSPRIG_SALVAGE_ANSWER_WRITTEN] == written
+        && salvage_answer[FERRYSPRIG_SALVAGE_ANSWER_NUMBERS] == UNTOUCHED;
+}
+
+static void try_salvage(void) {
+    enum { ALL = 2 * FERRYSPRIG_LEAST_BYTES + 3, ROWS = 95 * WIDTH, ENTRY = FERRYSPRIG_ENTRY_NUMBERS };
+    memset(salvage_answer, 0xA5, sizeof salvage_answer);
+    ferrysprig_salvage(NULL, 0, NULL, 0, NULL, 0, NULL, 0, salvage_answer);
+    holds("the salvage of nothing at all", salvage_answer[0] == 0 && salvage_answer[1] == 0 && salvage_answer[2] == 0);
+    salvage(0, ROWS, LIST, FRAMES);
+    holds("an empty capture has no entry", salvaged(0, 0, 0));
+    salvage(ALL, ROWS, LIST, FRAMES);
+    holds("a frame, a gap and a frame", salvaged(0, 3, 256) && memcmp(out, &out[128], 128) == 0);
+    salvage(128, ROWS, LIST, FRAMES);
+    holds("a frame alone", salvaged(0, 1, 128));
+    salvage(131, ROWS, LIST, FRAMES);
+    holds("a gap at the end", salvaged(0, 2, 128));
+    salvage(ALL, ROWS, 3 * ENTRY, 256);
+    holds("rooms that just suffice", salvaged(0, 3, 256));
+    salvage(ALL, ROWS - 1, LIST, FRAMES);
+    holds("a number of room too few for the first frame", salvaged(37, 0, 0));
+    salvage(131, ROWS, 2 * ENTRY - 1, FRAMES);
+    holds("no entry for the last gap", salvaged(36, 1, 128));
+    salvage(ALL, ROWS, ENTRY, FRAMES);
+    holds("no entry for the gap before a frame", salvaged(36, 1, 128));
+    salvage(ALL, ROWS, 3 * ENTRY - 1, FRAMES);
+    holds("no entry for the frame behind it", salvaged(36, 2, 128));
+    salvage(ALL, ROWS, 3 * ENTRY, 255);
+    holds("a byte of output too few, the gap is entered", salvaged(35, 2, 128));
+    salvage(ALL, ROWS, 0, 0);
+    holds("neither entry nor output", salvaged(36, 0, 0));
+    salvage(ALL, 0, 0, 0);
+    holds("no room of any sort", salvaged(37, 0, 0));
+    holds("entries that always suffice", FERRYSPRIG_MOST_ENTRIES(0) == 1 && FERRYSPRIG_MOST_ENTRIES(127) == 1
+              && FERRYSPRIG_MOST_ENTRIES(128) == 3 && FERRYSPRIG_MOST_ENTRIES(258) == 5);
+}
+
 static void try_texts(void) {
     static const char *const names[] = FERRYSPRIG_NAMES;
     static const char *const roles[] = FERRYSPRIG_ROLES;
@@ -305,10 +372,10 @@ static void try_texts(void) {
     holds("meanings by their numbers", strcmp(meanings[0], "accepted") == 0 && strcmp(meanings[5], "bsid is above 8") == 0
               && strcmp(meanings[23], "block 0 has snroffste 0") == 0
               && strcmp(meanings[24], "the header answer does not fit the input") == 0 && strcmp(meanings[33], "a byte after the frame is not 0") == 0
-              && strcmp(meanings[57], "the width is not 1 to 16") == 0);
+              && strcmp(meanings[36], "no entry of the list is left") == 0 && strcmp(meanings[57], "the width is not 1 to 16") == 0);
     bool empty = meanings[29][0] == '\0';
     for (int i = 25; i < 57; i++)
-        empty = empty && (i == 28 || (i >= 30 && i <= 34) || meanings[i][0] == '\0');
+        empty = empty && (i == 28 || (i >= 30 && i <= 37) || meanings[i][0] == '\0');
     holds("no meanings where there is no refusal", empty);
 }
 
@@ -318,19 +385,26 @@ static uint8_t stream[65536];
 static size_t stream_len;
 static ucontext_t here, there;
 
-/* Parses a stream; or reads each header and then the blocks; or writes its frames as bursts and reads those. */
-static enum { WHOLE, APART, AS_BURSTS, WAYS } way;
+/* What is called: the parse of each frame of a stream; its header and then its blocks; each frame written as a burst and read; the stream
+   salvaged. */
+static enum { PARSES, APART, BURSTS, SALVAGE, WAYS } way;
 
 static void call(void) {
     static uint8_t back[FERRYSPRIG_MOST_BYTES];
     int32_t header[FERRYSPRIG_HEADER_ANSWER_NUMBERS];
     size_t place = 0, numbers = sizeof room / sizeof *room;
+    if (way == SALVAGE) {
+        static uint8_t frames[sizeof stream];
+        static size_t entries[FERRYSPRIG_ENTRY_NUMBERS * FERRYSPRIG_MOST_ENTRIES(sizeof stream)];
+        ferrysprig_salvage(stream, stream_len, room, numbers, entries, sizeof entries / sizeof *entries, frames, sizeof frames, salvage_answer);
+        return;
+    }
     do {
         if (way == APART) {
             ferrysprig_header(stream, stream_len, place, room, numbers, header);
             ferrysprig_blocks(stream, stream_len, place, room, numbers, header, answer);
             place += (size_t)answer[FERRYSPRIG_ANSWER_BYTES];
-        } else if (way == AS_BURSTS) {
+        } else if (way == BURSTS) {
             ferrysprig_burst_write(stream, stream_len, place, room, numbers, out, sizeof out, answer);
             if (answer[FERRYSPRIG_BURST_ANSWER_REFUSAL] == 0)
                 ferrysprig_burst_read(out, FERRYSPRIG_BURST_BYTES, room, numbers, back, sizeof back, answer);
@@ -365,7 +439,7 @@ static void try_stack(int files, char **names) {
         all_read = all_read && stream_len > 0;
         if (in)
             fclose(in);
-        for (way = WHOLE; way < WAYS; way++) {
+        for (way = PARSES; way < WAYS; way++) {
             size_t used = stack_used();
             most = used > most ? used : most;
         }
@@ -382,6 +456,7 @@ int main(int argc, char **argv) {
     try_range_eq();
     try_edits();
     try_bursts();
+    try_salvage();
     try_texts();
     try_stack(argc - 1, argv + 1);
     return all_hold ? 0 : 1;

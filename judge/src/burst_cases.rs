@@ -45,7 +45,7 @@ pub struct Case<'a> {
 }
 
 /// Byte `i` of the output before a call; never 0.
-fn marked(i: usize) -> u8 {
+pub fn marked(i: usize) -> u8 {
     1 + (i % 255) as u8
 }
 

@@ -87,3 +87,9 @@ pub type HeaderAnswer = [i32; HEADER_ANSWER];
 
 /// An answer about a burst: its numbers are refusal, rows of the parse, bytes written.
 pub type BurstAnswer = [i32; 3];
+
+/// An answer about a salvage: its numbers are refusal, entries of the list, bytes written.
+pub type SalvageAnswer = [usize; 3];
+
+/// The numbers of an entry of a salvage's list: kind, place, length.
+pub const ENTRY: usize = 3;

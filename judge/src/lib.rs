@@ -61,3 +61,4 @@ pub mod names;
 pub mod parts;
 pub mod replay;
 pub mod rng;
+pub mod salvage;

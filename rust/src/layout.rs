@@ -34,6 +34,9 @@ pub const MOST_HEADER_ROWS: usize = 44;
 /// Bytes that no frame exceeds.
 pub const MOST_BYTES: usize = 3840;
 
+/// Bytes that every frame has.
+pub const LEAST_BYTES: usize = 128;
+
 /// The numbers of an answer.
 pub const ANSWER_NUMBERS: usize = 26;
 
@@ -101,3 +104,36 @@ pub mod burst_answer_at {
 }
 
 pub type BurstAnswer = [i32; BURST_ANSWER_NUMBERS];
+
+/// The numbers of an answer about a salvage.
+pub const SALVAGE_ANSWER_NUMBERS: usize = 3;
+
+/// Which number of an answer about a salvage is which.
+pub mod salvage_answer_at {
+    /// 0 if the walk came to the capture's end.
+    pub const REFUSAL: usize = 0;
+    /// How many entries the list has.
+    pub const ENTRIES: usize = 1;
+    /// How many bytes were written to the output.
+    pub const WRITTEN: usize = 2;
+}
+
+pub type SalvageAnswer = [usize; SALVAGE_ANSWER_NUMBERS];
+
+/// The numbers of an entry of a salvage's list: a list of this many numbers holds one.
+pub const ENTRY_NUMBERS: usize = 3;
+
+/// Which number of an entry is which.
+pub mod entry_at {
+    pub const KIND: usize = 0;
+    /// The first byte, counted from the capture's first.
+    pub const PLACE: usize = 1;
+    /// In bytes.
+    pub const LENGTH: usize = 2;
+}
+
+/// The kinds of an entry.
+pub mod kind {
+    pub const FRAME: usize = 0;
+    pub const GAP: usize = 1;
+}

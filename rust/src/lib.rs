@@ -67,6 +67,10 @@
 //!
 //! [`burst`] writes a frame as an IEC 61937 data burst, and reads the frame of one.
 //!
+//! # Salvage
+//!
+//! [`salvage`] goes through a damaged capture: it gives the frames that are left, one after the other, and a list of frames and gaps.
+//!
 //! # What comes after the audio
 //!
 //! The original's `parse` ends with `read_tail`: auxiliary data, crcrsv and crc2. That is the caller's. It goes on at bit
@@ -129,11 +133,12 @@ mod layout;
 mod names;
 mod parser;
 mod raw;
+pub mod salvage;
 
 pub use field::{Field, Fields};
 pub use frame::{Frame, FrameRef, Refusal, Summary, Unfit};
 pub use header::{Header, HeaderRef, HeaderSummary};
-pub use layout::{MOST_BYTES, MOST_HEADER_ROWS, MOST_ROWS, ROW_NUMBERS};
+pub use layout::{LEAST_BYTES, MOST_BYTES, MOST_HEADER_ROWS, MOST_ROWS, ROW_NUMBERS};
 pub use names::{Role, NAMES, REFUSALS};
 pub use parser::{
     blocks_into, header, header_at, header_into, parse, parse_at, parse_into, Parser,

@@ -1,8 +1,9 @@
 //! The archive's functions (c/ferrysprig.h) as safe ones. All unsafe code of the crate stands here; compare/ takes this file, too.
 
 use crate::layout::{
-    answer_at, burst_answer_at, header_answer_at, Answer, BurstAnswer, HeaderAnswer,
-    ANSWER_NUMBERS, BURST_ANSWER_NUMBERS, HEADER_ANSWER_NUMBERS, ROW_NUMBERS,
+    answer_at, burst_answer_at, header_answer_at, salvage_answer_at, Answer, BurstAnswer,
+    HeaderAnswer, SalvageAnswer, ANSWER_NUMBERS, BURST_ANSWER_NUMBERS, ENTRY_NUMBERS,
+    HEADER_ANSWER_NUMBERS, ROW_NUMBERS, SALVAGE_ANSWER_NUMBERS,
 };
 
 extern "C" {
@@ -68,6 +69,17 @@ extern "C" {
         width: usize,
         value: usize,
     ) -> u8;
+    fn ferrysprig_salvage(
+        capture: *const u8,
+        capture_len: usize,
+        rows: *mut i32,
+        rows_len: usize,
+        list: *mut usize,
+        list_len: usize,
+        out: *mut u8,
+        out_len: usize,
+        answer: *mut SalvageAnswer,
+    );
 }
 
 /// Parses the frame at byte `place` of `capture` into the lent `rows`; the answer, and the rows that it says were written.
@@ -220,4 +232,38 @@ fn written<'a>(answer: &BurstAnswer, out: &'a [u8]) -> &'a [u8] {
         .ok()
         .and_then(|count| out.get(..count))
         .expect("libferrysprig.a wrote more bytes than there is room for")
+}
+
+/// Goes through `capture`: its frames to the front of `out`, frames and gaps to the front of `list`; the answer, and the numbers and bytes
+/// that it says were written.
+pub fn salvage<'a>(
+    capture: &[u8],
+    rows: &mut [i32],
+    list: &'a mut [usize],
+    out: &'a mut [u8],
+) -> (SalvageAnswer, &'a [usize], &'a [u8]) {
+    let mut answer = [0; SALVAGE_ANSWER_NUMBERS];
+    // SAFETY: as in `burst_write`, with `list` as `out`.
+    unsafe {
+        ferrysprig_salvage(
+            capture.as_ptr(),
+            capture.len(),
+            rows.as_mut_ptr(),
+            rows.len(),
+            list.as_mut_ptr(),
+            list.len(),
+            out.as_mut_ptr(),
+            out.len(),
+            &mut answer,
+        );
+    }
+    // (That the counts fit is proved, as in `parse`.)
+    let listed = answer[salvage_answer_at::ENTRIES]
+        .checked_mul(ENTRY_NUMBERS)
+        .and_then(|numbers| list.get(..numbers))
+        .expect("libferrysprig.a listed more entries than there is room for");
+    let written = out
+        .get(..answer[salvage_answer_at::WRITTEN])
+        .expect("libferrysprig.a wrote more bytes than there is room for");
+    (answer, listed, written)
 }

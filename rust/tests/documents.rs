@@ -6,15 +6,13 @@ mod files;
 mod layout;
 
 use ferrysprig::burst::{self, Refusal};
-use ferrysprig::{
-    blocks_into, edit, header, parse, Field, Role, MOST_BYTES, MOST_HEADER_ROWS, MOST_ROWS, NAMES,
-    REFUSALS, ROW_NUMBERS,
-};
+use ferrysprig::{blocks_into, edit, header, parse, salvage, Field, Role, NAMES, REFUSALS};
+use ferrysprig::{LEAST_BYTES, MOST_BYTES, MOST_HEADER_ROWS, MOST_ROWS, ROW_NUMBERS};
 use files::text;
-use layout::{
-    answer_at, burst_answer_at, header_answer_at, row_at, ANSWER_NUMBERS, BURST_ANSWER_NUMBERS,
-    HEADER_ANSWER_NUMBERS,
-};
+use layout::{answer_at, burst_answer_at, entry_at, header_answer_at};
+use layout::{kind, row_at, salvage_answer_at};
+use layout::{ANSWER_NUMBERS, BURST_ANSWER_NUMBERS, ENTRY_NUMBERS};
+use layout::{HEADER_ANSWER_NUMBERS, SALVAGE_ANSWER_NUMBERS};
 
 #[test]
 fn names_are_those_of_the_list() {
@@ -90,6 +88,13 @@ fn texts_are_those_of_the_header() {
         say(refusal.number(), refusal.meaning());
     }
     for refusal in [
+        salvage::Refusal::NoOutput,
+        salvage::Refusal::NoEntry,
+        salvage::Refusal::NoRow,
+    ] {
+        say(refusal.number(), refusal.meaning());
+    }
+    for refusal in [
         edit::Refusal::WrongWidth,
         edit::Refusal::PastTheEnd,
         edit::Refusal::TooLarge,
@@ -107,9 +112,13 @@ fn numbers_are_those_of_the_header() {
     assert_eq!(HEADER_ANSWER_NUMBERS, of_header);
     let of_burst = number("FERRYSPRIG_BURST_ANSWER_NUMBERS");
     assert_eq!(BURST_ANSWER_NUMBERS, of_burst);
+    let of_salvage = number("FERRYSPRIG_SALVAGE_ANSWER_NUMBERS");
+    assert_eq!(SALVAGE_ANSWER_NUMBERS, of_salvage);
+    assert_eq!(ENTRY_NUMBERS, number("FERRYSPRIG_ENTRY_NUMBERS"));
     assert_eq!(MOST_ROWS, number("FERRYSPRIG_MOST_ROWS"));
     assert_eq!(MOST_HEADER_ROWS, number("FERRYSPRIG_MOST_HEADER_ROWS"));
     assert_eq!(MOST_BYTES, number("FERRYSPRIG_MOST_BYTES"));
+    assert_eq!(LEAST_BYTES, number("FERRYSPRIG_LEAST_BYTES"));
     assert_eq!(burst::BYTES, number("FERRYSPRIG_BURST_BYTES"));
     let proved = text("crates/ac3/specs/RowBound.antt");
     assert!(proved.contains(&format!("\nmostRows = {MOST_ROWS}\n")));
@@ -182,6 +191,17 @@ fn places_are_those_of_the_header() {
         ("ROWS", answer_at::ROWS),
         ("WRITTEN", burst_answer_at::WRITTEN),
     ];
+    let of_salvage = [
+        ("REFUSAL", salvage_answer_at::REFUSAL),
+        ("ENTRIES", salvage_answer_at::ENTRIES),
+        ("WRITTEN", salvage_answer_at::WRITTEN),
+    ];
+    let entry = [
+        ("KIND", entry_at::KIND),
+        ("PLACE", entry_at::PLACE),
+        ("LENGTH", entry_at::LENGTH),
+    ];
+    let kinds = [("FRAME", kind::FRAME), ("GAP", kind::GAP)];
     let own = |ours: &[(&str, usize)]| {
         let pairs = ours.iter().map(|(name, at)| (name.to_string(), *at));
         pairs.collect::<Vec<_>>()
@@ -190,6 +210,9 @@ fn places_are_those_of_the_header() {
     assert_eq!(places("FERRYSPRIG_ANSWER_"), own(&answer));
     assert_eq!(places("FERRYSPRIG_HEADER_ANSWER_"), own(&header));
     assert_eq!(places("FERRYSPRIG_BURST_ANSWER_"), own(&burst));
+    assert_eq!(places("FERRYSPRIG_SALVAGE_ANSWER_"), own(&of_salvage));
+    assert_eq!(places("FERRYSPRIG_ENTRY_"), own(&entry));
+    assert_eq!(places("FERRYSPRIG_KIND_"), own(&kinds));
 }
 
 #[test]

@@ -20,11 +20,12 @@ use Rattle.rows.specs.Found.{valueOf}
 use Rattle.burst.specs.Answers.{refuses, gives, notABurst, wrongWords, ofFrame, wrongLength, notZero, otherMode, noRoom, frameIn, writing, reading, told, bsmodOf, written, read}
 use Rattle.burst.specs.Burst.{burstBytes, headBytes, typeWord, modeBits, head, burstOf, wordAt, opens, allZero}
 use Rattle.burst.specs.Bursts.{wrote, bytesOf, Gives, Bytes, AsManyRows, Inverse}
-use Rattle.burst.specs.Framed.{frameOf, SameFrame, Framed}
+use Rattle.rows.specs.Framed.{frameOf, SameFrame, Framed}
 use Rattle.burst.specs.declared.Answer.{Answer}
-use Rattle.burst.proofs.Framed.{accepted-framed}
+use Rattle.rows.proofs.Framed.{accepted-framed}
+use Rattle.rows.proofs.Spelt.{spelt}
 use Rattle.burst.proofs.Judged.{bsmod-lt, w-done, r-done}
-use Rattle.burst.proofs.Words.{spelt, third, fourth, mode-there, opened, frame-there, zeros-there}
+use Rattle.burst.proofs.Words.{third, fourth, mode-there, opened, frame-there, zeros-there}
 use Rattle.burst.proofs.Written.{burst-long}
 
 -- ---- what is not refused passed every check

@@ -23,9 +23,9 @@ use Rattle.rows.proofs.Found.{looks-up}
 use Rattle.rows.proofs.Opening.{head-rows}
 use Rattle.burst.specs.Burst.{burstBytes, headBytes, burstOf, wordAt, modeBits, opens, allZero}
 use Rattle.burst.specs.Answers.{number, frameIn, writing, reading, told, bsmodOf, written, read}
-use Rattle.burst.specs.Framed.{Framed}
+use Rattle.rows.specs.Framed.{Framed}
 use Rattle.burst.specs.declared.Answer.{Answer}
-use Rattle.burst.proofs.Framed.{accepted-framed}
+use Rattle.rows.proofs.Framed.{accepted-framed}
 use Rattle.burst.proofs.Written.{burst-long}
 
 -- ---- bsmod

@@ -1,5 +1,4 @@
 pub mod Written
-pub mod Framed
 pub mod Judged
 pub mod Words
 pub mod Bursts

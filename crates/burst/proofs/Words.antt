@@ -2,22 +2,15 @@
 use mathlib.Core.Bool.{Bool, true, false, _&&_}
 use mathlib.Core.List.{List, [], _∷_, _++_, append-assoc}
 use mathlib.Core.Path.{_≡_, refl, sym, ap, _∙_}
-use Prim.Native.Nat.{ℕ, zero, suc, _+_, _-_, _*_, _/_, _%_, _^_, _≤_, _<_}
+use Prim.Native.Nat.{ℕ, zero, suc, _+_, _-_, _*_, _/_, _%_, _≤_, _<_}
 use native.Mathlib.Omega.{arith}
 use borrow.Author.Tests.{eq-eqb}
-use lib.Bits.{bitOr, or-shifted}
 use lib.Dec.{eqb}
 use lib.ListN.{length, getD, take, drop, replicate}
 use lib.Seq.{take-append-seam, drop-append-add, drop-append-seam}
 use Rattle.bits.specs.Bits.{value}
-use Rattle.bits.proofs.Window.{window-2}
+use Rattle.rows.proofs.Spelt.{spelt}
 use Rattle.burst.specs.Burst.{burstBytes, headBytes, typeWord, modeBits, head, burstOf, wordAt, opens, allZero}
-
--- two bytes spell their word
-pub spelt : (s : List ℕ) (k : ℕ) → getD s k 0 < 256 → getD s (k + 1) 0 < 256 → value s (k * 8) 16 ≡ getD s k 0 * 256 + getD s (k + 1) 0
-spelt s k high low =
-    let whole : getD s k 0 * 256 % 4294967296 ≡ getD s k 0 * 2 ^ 8 = omega arith in
-    sym (window-2 s k (refl, high) (refl, low)) ∙ ap (λ a. bitOr a (getD s (k + 1) 0)) whole ∙ or-shifted (getD s k 0) 8 (getD s (k + 1) 0) low ∙ omega arith
 
 word-put : (s : List ℕ) (k w : ℕ) → w < 65536 → getD s k 0 ≡ w / 256 → getD s (k + 1) 0 ≡ w % 256 → value s (k * 8) 16 ≡ w
 word-put s k w small high low = spelt s k (omega (arith, high)) (omega (arith, low)) ∙ omega (arith, high, low)

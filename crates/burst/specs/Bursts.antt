@@ -8,7 +8,7 @@ use lib.ListN.{length, getD, take, drop}
 use Rattle.ac3.specs.Promise.{Call, roomFor}
 use Rattle.burst.specs.Answers.{written, read}
 use Rattle.burst.specs.Burst.{burstBytes}
-use Rattle.burst.specs.Framed.{frameOf}
+use Rattle.rows.specs.Framed.{frameOf}
 use Rattle.burst.specs.declared.Answer.{Answer}
 
 -- a call of either, with what it was lent and what it left

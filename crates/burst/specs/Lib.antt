@@ -1,4 +1,3 @@
 pub mod Burst
 pub mod Answers
-pub mod Framed
 pub mod Bursts

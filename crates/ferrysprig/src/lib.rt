@@ -18,16 +18,20 @@ ghost use Rattle.burst.specs.Answers as bursts;
 ghost use Rattle.edits.specs.Edits as edits;
 ghost use Rattle.ac3.specs.Apart.{headerTo};
 ghost use Rattle.ferrysprig.specs.Apart.{headerTold, blocksHeld};
+ghost use Rattle.salvage.specs.Lent.{salvaged};
 ghost use Rattle.ferrysprig.specs.Bursts.{burstInOrder, burstNumbers, burstTold};
 ghost use Rattle.ferrysprig.specs.Numbers.{flag, inOrder, answerNumbers, told};
 ghost use Rattle.ferrysprig.specs.Promise.{PromisedNumbers};
+ghost use Rattle.ferrysprig.specs.Salvages.{salvageNumbers, salvageTold};
 
-// The numbers of an answer, and of one about a burst. The block of what did not fit stands after those that are never negative.
+// The numbers of an answer, of one about a burst, and of one about a salvage. The block of what did not fit stands after those that are never negative.
 pub const ANSWER: usize = BLOCK + 1;
 
 const BLOCK: usize = 25;
 
 pub const BURST_ANSWER: usize = 3;
+
+pub const SALVAGE_ANSWER: usize = 3;
 
 fn flag(b: bool) -> u16
     ensures { λ r. ⌜ r ≡ flag b ⌝ }
@@ -204,4 +208,26 @@ pub extern "C" fn ferrysprig_set(
     ensures { λ r. ⌜ (r, now (capture .exit)) ≡ edits.set (now (capture .entry)) place position width value ⌝ }
 {
     edits::set(capture, place, position, width, value)
+}
+
+// The numbers of an answer about a salvage. They count entries and bytes of a capture, so they are as wide as places are.
+fn salvage_numbers(a: salvage::Answer) -> [usize; SALVAGE_ANSWER]
+    ensures { λ r. ⌜ r ≡ salvageNumbers a ⌝ }
+{
+    [a.refusal as usize, a.entries, a.bytes]
+}
+
+// Goes through a broken capture: its frames are written one after the other, frames and gaps are listed, three numbers to an entry (kind,
+// place, length), and then the answer's numbers are written.
+#[no_mangle]
+pub extern "C" fn ferrysprig_salvage(
+    capture: &[u8],
+    rows: &mut [i32],
+    list: &mut [usize],
+    out: &mut [u8],
+    answer: &mut [usize; SALVAGE_ANSWER],
+)
+    ensures { λ _. ⌜ ((now (answer .exit), (now (list .exit), now (out .exit))), now (rows .exit)) ≡ salvageTold (salvaged (now (capture .entry)) (now (rows .entry)) (now (list .entry)) (now (out .entry))) ⌝ }
+{
+    *answer = salvage_numbers(salvage::salvage(capture, rows, list, out));
 }

@@ -1,3 +1,5 @@
 pub mod Look
 pub mod Found
 pub mod Opening
+pub mod Framed
+pub mod Spelt

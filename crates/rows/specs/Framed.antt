@@ -1,4 +1,5 @@
--- What is known of a frame that was accepted: its bytes are there, and they are the same frame wherever they stand.
+-- What is known of a frame that was accepted: its bytes are there, and they are the same frame wherever they stand. And of every answer: it
+-- owes to the room the number of its rows alone.
 use mathlib.Core.List.{List, _++_}
 use mathlib.Core.Path.{_≡_}
 use Prim.Native.Nat.{ℕ, _≤_}
@@ -26,3 +27,7 @@ pub record Framed (c : Call) : Type 0 where
 
 abbrev pub AcceptedFramed : Type 0
 AcceptedFramed = (c : Call) → Accepted c → Framed c
+
+-- whatever numbers the room holds, accepted or not
+abbrev pub RowsCount : Type 0
+RowsCount = (c d : Call) → input d ≡ input c → roomFor d ≡ roomFor c → SameFrame c d

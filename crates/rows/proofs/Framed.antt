@@ -38,9 +38,9 @@ use Rattle.ac3.proofs.Promise.{promised, result, landed, answer-is}
 use Rattle.ac3.proofs.Rooms.{same-answer}
 use Rattle.ac3.proofs.RowBound.{a-bsi, a-audio}
 use Rattle.ac3.proofs.Within.{kept-within}
 use Rattle.rows.specs.Found.{opening}
 use Rattle.rows.proofs.Opening.{opens}
-use Rattle.burst.specs.Framed.{frameBytesOf, frameOf, SameFrame, Framed, AcceptedFramed}
+use Rattle.rows.specs.Framed.{frameBytesOf, frameOf, SameFrame, Framed, AcceptedFramed, RowsCount}
 
 -- ---- every answer that a grammar can reach
 
@@ -238,6 +238,20 @@ bit-taken s n p h = ap (λ b. b / 2 ^ (7 - p % 8) % 2) (sym (getD-take n s (p / 
 told-of : (e e′ : End Audio) (p p′ : Place) → e ≡ e′ → p .count ≡ p′ .count → p .at ≡ p′ .at → answered (finish e p) .0 ≡ answered (finish e′ p′) .0
 told-of e e′ p p′ end count at = same-answer e p p′ count at ∙ ap (λ e. answered (finish e p′) .0) end
 
+told-alike : (c d : Call) → result d .end ≡ result c .end → result d .rows ≡ result c .rows → result d .spot .at ≡ result c .spot .at → SameFrame c d
+told-alike c d end rows at =
+    record {
+      answer = ap (λ x. x .0) (answer-is d)
+          ∙ told-of (result d .end) (result c .end) (landed (result d) (d .room)) (landed (result c) (c .room)) end (ap length rows) at
+          ∙ ap (λ x. x .0) (sym (answer-is c));
+      rows = rows;
+    }
+
+pub rows-count : RowsCount
+rows-count c d same room =
+    let it : result d ≡ result c = λ j. parse syncframe (same j) (room j) in
+    told-alike c d (ap (λ r. r .end) it) (ap (λ r. r .rows) it) (ap (λ r. r .spot .at) it)
+
 module _ (c : Call) (ok : Accepted c) where
   abbrev s : List ℕ
   s = input c
@@ -317,14 +331,8 @@ module _ (c : Call) (ok : Accepted c) where
       ap (λ s. parse syncframe s (roomFor c)) (sym (take-append-drop n s)) ∙ same-behind (drop n s) ∙ ap (λ s. resized (length s) (parse syncframe f (roomFor c))) (take-append-drop n s) in
       let there : parse syncframe (input d) (roomFor d) ≡ resized (length (f ++ more)) (parse syncframe f (roomFor c)) =
       (λ j. parse syncframe (e j) (room j)) ∙ same-behind more in
-      record {
-        answer = ap (λ x. x .0) (answer-is d)
-            ∙ told-of (result d .end) (result c .end) (landed (result d) (d .room)) (landed (result c) (c .room))
-            (ap (λ r. r .end) there ∙ sym (ap (λ r. r .end) here′)) (ap (λ r. length (r .rows)) there ∙ sym (ap (λ r. length (r .rows)) here′))
-            (ap (λ r. r .spot .at) there ∙ sym (ap (λ r. r .spot .at) here′))
-            ∙ ap (λ x. x .0) (sym (answer-is c));
-        rows = ap (λ r. r .rows) there ∙ sym (ap (λ r. r .rows) here′);
-      }
+      told-alike c d (ap (λ r. r .end) there ∙ sym (ap (λ r. r .end) here′)) (ap (λ r. r .rows) there ∙ sym (ap (λ r. r .rows) here′))
+      (ap (λ r. r .spot .at) there ∙ sym (ap (λ r. r .spot .at) here′))
 
 pub accepted-framed : AcceptedFramed
 accepted-framed c ok = record { some = some c ok; most = most c ok; inside = inside c ok; anywhere = anywhere c ok }

@@ -1,0 +1,7 @@
+pub mod Parsed
+pub mod Unsynced
+pub mod Lent
+pub mod Steps
+pub mod Loop
+pub mod Salvages
+pub mod Unbroken

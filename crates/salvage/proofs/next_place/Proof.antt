@@ -1,0 +1,48 @@
+-- `salvage::next_place` meets its contract: each turn passes one place more that has no sync word. Assumes nothing.
+use mathlib.Core.Bool.{false}
+use mathlib.Core.List.{List}
+use mathlib.Core.Path.{_≡_, sym, subst, _∙_}
+use Prim.Native.Nat.{ℕ, _+_, _-_, _≤_, _<_}
+use native.Mathlib.Decide.{decLe}
+use native.Mathlib.Omega.{arith}
+use borrow.Author.Needs.{needs}
+use lib.ListN.{length}
+use Rattle.salvage.specs.Passed.{isSync, Passed}
+use Rattle.salvage.proofs.next_place.Statement.{statement}
+use Rattle.salvage.proofs.next_place.Tie as tie
+
+further : (capture : List ℕ) (from place : ℕ) → Passed capture from place → place + 6 < length capture → isSync capture place ≡ false → Passed capture from (place + 1)
+further capture from place passed more unsynced = record { onward = omega (arith, passed .onward); unsynced = λ p p-from p-to. go p p-from p-to (decLe place p) }
+  where
+    go : (p : ℕ) → from ≤ p → p < place + 1 → Dec (place ≤ p) → (p + 6 < length capture) × (isSync capture p ≡ false)
+    go p p-from p-to (Dec.yes h) = let here : place ≡ p = omega arith in subst (λ p. (p + 6 < length capture) × (isSync capture p ≡ false)) here (more, unsynced)
+    go p p-from p-to (Dec.no h) = passed .unsynced p p-from (omega arith)
+
+abbrev Inv-loop : tie.InvT-loop
+Inv-loop capture from place₀ place = (place ≤ length capture) × Passed capture from place
+
+abbrev μ-loop : tie.MeasureT-loop
+μ-loop capture from place₀ place = length capture - place
+
+again : tie.Need-loop-again Inv-loop μ-loop
+again c =
+    let tested = c .before in
+    let test = tested .before in
+    let at = test .before in
+    let a = at .before .before .args in
+    (omega arith, further (a .capture .now) (a .from) (at .loop .place) (at .loop .inv .1) (test .loop-test .taken) (sym (tested .is-sync .ensures) ∙ c .if1 .left))
+
+pub next-place-spec : {M : Type 1} → statement M
+next-place-spec =
+    tie.close
+    (tie.spec
+    Inv-loop
+    μ-loop
+    (λ c. (omega arith, record { onward = omega arith; unsynced = λ p p-from p-to. absurd (omega arith) }))  -- loop-holds
+    (λ c. search needs)  -- add-loop
+    (λ c κs. omega arith)  -- is-sync-requires
+    (λ c. c .before .before .before .loop .inv)  -- returns
+    (λ c. search needs)  -- add-place
+    (λ c. omega arith)  -- loop-less
+    again
+    (λ c. c .before .loop .inv))  -- returns-2

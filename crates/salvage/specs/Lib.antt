@@ -1,0 +1,4 @@
+pub mod Walk
+pub mod Lent
+pub mod Salvages
+pub mod Passed

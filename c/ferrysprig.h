@@ -120,8 +120,9 @@ enum {
     /* 111 */ "mantissas" \
 }
 
-/* What each refusal means: 1 to 23 of a frame, 24 of a header answer, 28 and 30 to 34 of a burst, 35 to 37 of a salvage, 57 to 59 of a value to be set. (No others
-   are given.) */
+/* What each refusal means: 1 to 23 of a frame, 24 of a header answer, 25 to 27 of an AHT section, 28 and 30 to 34 of a burst, 35 to 37 of a
+   salvage, 57 to 59 of a value to be set. (No others are given. The text of 6 is a frame's; ferrysprig_aht says what it means of a
+   section.) */
 #define FERRYSPRIG_MEANINGS { \
     /*  0 */ "accepted", \
     /*  1 */ "the input has fewer than 6 bytes", \
@@ -148,7 +149,9 @@ enum {
     /* 22 */ "block 0 has baie 0", \
     /* 23 */ "block 0 has snroffste 0", \
     /* 24 */ "the header answer does not fit the input", \
-    /* 25 */ "", "", "", \
+    /* 25 */ "a composite gain is above 26", \
+    /* 26 */ "a hebap is above 19", \
+    /* 27 */ "the end bin is above the number of hebaps", \
     /* 28 */ "the output is too short", \
     /* 29 */ "", \
     /* 30 */ "the burst is not 6,144 bytes", \
@@ -226,6 +229,29 @@ bool ferrysprig_editable(size_t name);
    position + width is more than 8 capture_len (however large the numbers), 59 if the value is 2 to the width or more. That the row may be
    edited is not looked at, and no checksum is mended. */
 uint8_t ferrysprig_set(uint8_t *capture, size_t capture_len, size_t place, size_t position, size_t width, size_t value);
+
+/* AHT sections of E-AC-3: where one ends. Under the adaptive hybrid transform the gain words, vector indices and mantissas of a channel
+   stand together for all six blocks, bin by bin; docs/FORMAT.md has a section word by word. */
+
+/* The numbers of an answer about an AHT section. */
+enum {
+    FERRYSPRIG_AHT_ANSWER_REFUSAL = 0, /* 0: done; else 6 or 25 to 27 */
+    FERRYSPRIG_AHT_ANSWER_END = 1,     /* the first bit after the section; 0 on a refusal */
+    FERRYSPRIG_AHT_ANSWER_TAGS = 2     /* how many GAQ tags it has; 0 on a refusal */
+};
+#define FERRYSPRIG_AHT_ANSWER_NUMBERS 3
+
+/* Walks over the AHT section at bit `at` of `data`, of which nothing may stand from bit `end` on or past the data, for the bins from
+   `first` on and before `past`; `hebap` has an entry for each bin from 0 on. A first bin at or past the end bin is an empty range, of which
+   gaqmod alone is read. Any numbers and any bytes are answered; `answer` overlaps nothing. The refusals: 27 if `past` is above `hebap_len`,
+   for an empty range too; after it the first that is met of 25 (a composite gain above 26), 26 (a hebap above 19) and 6 (something would
+   end past `end` or the data's end).
+
+   Mantissa values steer the length here: under gain 2 or 4 a mantissa whose first bit is 1 and whose others are 0 is a tag, and a large
+   mantissa follows it. Whoever changes a mantissa may move the section's end and all that stands after it. So this alone is proved of bits:
+   equal bits give equal ends and tags, whatever stands before and after them. */
+void ferrysprig_aht(const uint8_t *data, size_t data_len, size_t at, size_t end, const uint8_t *hebap, size_t hebap_len, size_t first,
+                    size_t past, size_t answer[FERRYSPRIG_AHT_ANSWER_NUMBERS]);
 
 /* IEC 61937 data bursts: a frame as 6,144 bytes, and back. docs/FORMAT.md has a burst word by word. */
 

@@ -255,6 +255,36 @@ static void try_edits(void) {
               && !ferrysprig_editable(SIZE_MAX));
 }
 
+/* Whether a section in three bytes, of which all but the first are 0, is answered so, with nothing written past the answer. */
+static bool walks(uint8_t front, size_t at, size_t end, const char *hebap, size_t first, size_t past, size_t refusal, size_t last,
+                  size_t tags) {
+    const uint8_t data[] = {front, 0, 0};
+    size_t told[FERRYSPRIG_AHT_ANSWER_NUMBERS + 1] = {UNTOUCHED, UNTOUCHED, UNTOUCHED, UNTOUCHED};
+    ferrysprig_aht(data, sizeof data, at, end, (const uint8_t *)hebap, strlen(hebap), first, past, told);
+    return told[FERRYSPRIG_AHT_ANSWER_REFUSAL] == refusal && told[FERRYSPRIG_AHT_ANSWER_END] == last
+        && told[FERRYSPRIG_AHT_ANSWER_TAGS] == tags && told[FERRYSPRIG_AHT_ANSWER_NUMBERS] == UNTOUCHED;
+}
+
+/* Hebaps are characters here: \x8 has mantissas of 3 bits, \x1 a vector index of 2, \x14 (20) is too large. */
+static void try_aht(void) {
+    size_t told[FERRYSPRIG_AHT_ANSWER_NUMBERS] = {UNTOUCHED, UNTOUCHED, UNTOUCHED};
+    ferrysprig_aht(NULL, 0, 0, 0, NULL, 0, 0, 0, told);
+    holds("a section of nothing at all", told[0] == 6 && told[1] == 0 && told[2] == 0);
+    holds("sections without bins", walks(0, 5, 24, "", 0, 0, 0, 7, 0) && walks(0, 5, 24, "\x8", 1, 0, 0, 7, 0)
+              && walks(0, 5, 24, "\x14", SIZE_MAX, 1, 0, 7, 0));
+    holds("six mantissas that end with the data", walks(0, 4, 24, "\x8", 0, 1, 0, 24, 0) && walks(0, 4, SIZE_MAX, "\x8", 0, 1, 0, 24, 0));
+    holds("a bit past the given end, and past the data", walks(0, 4, 23, "\x8", 0, 1, 6, 0, 0)
+              && walks(0, 5, SIZE_MAX, "\x8", 0, 1, 6, 0, 0));
+    holds("gain 2 without and with a tag", walks(0x60, 0, 24, "\x8", 0, 1, 0, 15, 0) && walks(0x70, 0, 24, "\x8", 0, 1, 0, 17, 1));
+    holds("gain 4 without and with a tag", walks(0xA0, 0, 24, "\x8", 0, 1, 0, 9, 0) && walks(0xB0, 0, 24, "\x8", 0, 1, 0, 12, 1));
+    holds("composite gains 18 and 27", walks(0xE4, 0, 24, "\x8", 0, 1, 0, 13, 0) && walks(0xF6, 0, 24, "\x8", 0, 1, 25, 0, 0));
+    holds("a wrong hebap in the range, and around it", walks(0, 0, 24, "\x14\x1\x14", 1, 3, 26, 0, 0)
+              && walks(0, 0, 24, "\x14\x1\x14", 1, 2, 0, 4, 0));
+    holds("an end bin that is not there", walks(0, 0, 24, "\x8", 0, 2, 27, 0, 0) && walks(0, 9, 0, "\x14", 9, SIZE_MAX, 27, 0, 0));
+    holds("bits of a section that cannot be counted", walks(0, SIZE_MAX, SIZE_MAX, "\x8", 0, 1, 6, 0, 0)
+              && walks(0, SIZE_MAX - 1, 24, "", 0, 0, 6, 0, 0));
+}
+
 static uint8_t out[FERRYSPRIG_BURST_BYTES + 1];
 
 /* Whether an answer about a burst says so, with the output untouched. */
@@ -372,10 +402,11 @@ static void try_texts(void) {
     holds("meanings by their numbers", strcmp(meanings[0], "accepted") == 0 && strcmp(meanings[5], "bsid is above 8") == 0
               && strcmp(meanings[23], "block 0 has snroffste 0") == 0
               && strcmp(meanings[24], "the header answer does not fit the input") == 0 && strcmp(meanings[33], "a byte after the frame is not 0") == 0
-              && strcmp(meanings[36], "no entry of the list is left") == 0 && strcmp(meanings[57], "the width is not 1 to 16") == 0);
+              && strcmp(meanings[26], "a hebap is above 19") == 0 && strcmp(meanings[36], "no entry of the list is left") == 0
+              && strcmp(meanings[57], "the width is not 1 to 16") == 0);
     bool empty = meanings[29][0] == '\0';
-    for (int i = 25; i < 57; i++)
-        empty = empty && (i == 28 || (i >= 30 && i <= 37) || meanings[i][0] == '\0');
+    for (int i = 38; i < 57; i++)
+        empty = empty && meanings[i][0] == '\0';
     holds("no meanings where there is no refusal", empty);
 }
 
@@ -386,10 +417,14 @@ static size_t stream_len;
 static ucontext_t here, there;
 
 /* What is called: the parse of each frame of a stream; its header and then its blocks; each frame written as a burst and read; the stream
-   salvaged. */
+   salvaged. And its bytes are walked over as if they were AHT sections. */
 static enum { PARSES, APART, BURSTS, SALVAGE, WAYS } way;
 
 static void call(void) {
+    static const uint8_t hebap[] = {8, 9, 1, 10, 11, 0, 12, 13, 7, 14, 15, 16, 17, 18, 19};
+    static size_t section[FERRYSPRIG_AHT_ANSWER_NUMBERS];
+    for (size_t at = 0; at < 100; at++)
+        ferrysprig_aht(stream, stream_len, at, 8 * stream_len, hebap, sizeof hebap, 0, sizeof hebap, section);
     static uint8_t back[FERRYSPRIG_MOST_BYTES];
     int32_t header[FERRYSPRIG_HEADER_ANSWER_NUMBERS];
     size_t place = 0, numbers = sizeof room / sizeof *room;
@@ -455,6 +490,7 @@ int main(int argc, char **argv) {
     try_apart();
     try_range_eq();
     try_edits();
+    try_aht();
     try_bursts();
     try_salvage();
     try_texts();

@@ -93,3 +93,6 @@ pub type SalvageAnswer = [usize; 3];
 
 /// The numbers of an entry of a salvage's list: kind, place, length.
 pub const ENTRY: usize = 3;
+
+/// An answer about an AHT section: refusal, the bit after it, tags.
+pub type AhtAnswer = [usize; 3];

@@ -40,6 +40,8 @@ pub mod tables;
 pub mod agree;
 pub mod apart;
 pub mod apart_cases;
+pub mod aht;
+pub mod aht_cases;
 pub mod burst;
 pub mod burst_cases;
 pub mod cases;

@@ -1,9 +1,9 @@
-//! The published `allocate` against an allocation written from the words of docs/FORMAT.md: one loop over
+//! The published `allocate`, by either table of pointers, against an allocation written from the words of docs/FORMAT.md: one loop over
 //! the bands with the state fast, slow, lowcomp and rising.
 
 use judge::alloc::{allocate, Channel, DeltaSeg, Params};
 use judge::rng::Rng;
-use judge::tables::{masktab, BAP, HEARING, LOG_ADD};
+use judge::tables::{masktab, BAP, HEARING, HEBAP, LOG_ADD};
 
 fn logadd(a: i32, b: i32) -> i32 {
     a.max(b) + LOG_ADD[((a - b).abs() / 2).min(255) as usize]
@@ -20,7 +20,7 @@ fn calc_lowcomp(a: i32, b0: i32, b1: i32, bin: usize) -> i32 {
 }
 
 /// 6.2.2, one band or bin at a time.
-fn in_words(c: &Channel<'_>, p: &Params) -> Vec<u8> {
+fn in_words(c: &Channel<'_>, p: &Params, table: &[u8; 64]) -> Vec<u8> {
     let psd = |bin: usize| 3072 - 128 * i32::from(c.exp[bin]);
     let (first, end) = (masktab(c.start), masktab(c.end - 1) + 1);
     let bins = |k: usize| (c.start..c.end).filter(move |&bin| masktab(bin) == k);
@@ -65,7 +65,7 @@ fn in_words(c: &Channel<'_>, p: &Params) -> Vec<u8> {
     let pointer = |bin| {
         let m = (mask[masktab(bin)] - c.snroffset - p.floor).max(0);
         assert!(m < 0x2000, "nothing stands above bit 12");
-        BAP[((psd(bin) - (m & 0x1fe0) - p.floor) >> 5).clamp(0, 63) as usize]
+        table[((psd(bin) - (m & 0x1fe0) - p.floor) >> 5).clamp(0, 63) as usize]
     };
     let bins = 0..c.end;
     bins.map(|bin| if bin < c.start { 0 } else { pointer(bin) })
@@ -119,6 +119,9 @@ fn published_allocation_is_that_in_words() {
             floor: rng.pick(&[752, 688, 624, 560, 496, 368, 240, -2048]),
             fscod: rng.below(3),
         };
-        assert_eq!(in_words(&c, &p), allocate(&c, &p, &BAP), "round {round}");
+        for table in [&BAP, &HEBAP] {
+            let ours = in_words(&c, &p, table);
+            assert_eq!(ours, allocate(&c, &p, table), "round {round}");
+        }
     }
 }

@@ -6,7 +6,7 @@ use judge::blocks::{
 };
 use judge::craft::small;
 use judge::syntax::Cursor;
-use judge::tables::{ac3_frame_words, masktab, BAND_END, BAP, FLOOR, LOG_ADD};
+use judge::tables::{ac3_frame_words, masktab, BAND_END, BAP, FLOOR, HEBAP, LOG_ADD};
 
 #[test]
 fn a_frame_bytes() {
@@ -195,14 +195,22 @@ fn i_mantissa_bits() {
     assert_eq!(bits(&[2, 1, 2]), 12);
 }
 
+/// A table of so many zeros, ones, twos and so on.
+fn of_runs(runs: &[usize]) -> Vec<u8> {
+    let values = (0u8..).zip(runs);
+    values.flat_map(|(value, run)| vec![value; *run]).collect()
+}
+
 #[test]
 fn bap_is_the_listed_runs() {
     let runs = [1, 5, 2, 3, 2, 2, 4, 4, 4, 4, 4, 4, 4, 4, 8, 9];
-    let table: Vec<u8> = (0u8..)
-        .zip(runs)
-        .flat_map(|(value, run)| vec![value; run])
-        .collect();
-    assert_eq!(table, BAP);
+    assert_eq!(of_runs(&runs), BAP);
+}
+
+#[test]
+fn hebap_is_the_listed_runs() {
+    let runs = [1, 1, 1, 1, 1, 1, 1, 1, 4, 3, 4, 4, 4, 4, 4, 4, 4, 4, 8, 9];
+    assert_eq!(of_runs(&runs), HEBAP);
 }
 
 #[test]

@@ -137,3 +137,18 @@ pub mod kind {
     pub const FRAME: usize = 0;
     pub const GAP: usize = 1;
 }
+
+/// The numbers of an answer about an AHT section.
+pub const AHT_ANSWER_NUMBERS: usize = 3;
+
+/// Which number of an answer about an AHT section is which.
+pub mod aht_answer_at {
+    /// 0 if the whole section was walked over.
+    pub const REFUSAL: usize = 0;
+    /// The bit after the section.
+    pub const END: usize = 1;
+    /// How many GAQ tags it has.
+    pub const TAGS: usize = 2;
+}
+
+pub type AhtAnswer = [usize; AHT_ANSWER_NUMBERS];

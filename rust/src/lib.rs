@@ -71,6 +71,10 @@
 //!
 //! [`salvage`] goes through a damaged capture: it gives the frames that are left, one after the other, and a list of frames and gaps.
 //!
+//! # AHT sections
+//!
+//! [`aht`] tells where a section of E-AC-3's adaptive hybrid transform ends, and how many tags it has. Mantissa values steer that length.
+//!
 //! # What comes after the audio
 //!
 //! The original's `parse` ends with `read_tail`: auxiliary data, crcrsv and crc2. That is the caller's. It goes on at bit
@@ -124,6 +128,7 @@
 
 #![warn(missing_docs)]
 
+pub mod aht;
 pub mod burst;
 pub mod edit;
 mod field;

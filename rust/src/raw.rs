@@ -1,9 +1,10 @@
 //! The archive's functions (c/ferrysprig.h) as safe ones. All unsafe code of the crate stands here; compare/ takes this file, too.
 
 use crate::layout::{
-    answer_at, burst_answer_at, header_answer_at, salvage_answer_at, Answer, BurstAnswer,
-    HeaderAnswer, SalvageAnswer, ANSWER_NUMBERS, BURST_ANSWER_NUMBERS, ENTRY_NUMBERS,
-    HEADER_ANSWER_NUMBERS, ROW_NUMBERS, SALVAGE_ANSWER_NUMBERS,
+    answer_at, burst_answer_at, header_answer_at, salvage_answer_at, AhtAnswer, Answer,
+    BurstAnswer, HeaderAnswer, SalvageAnswer, AHT_ANSWER_NUMBERS, ANSWER_NUMBERS,
+    BURST_ANSWER_NUMBERS, ENTRY_NUMBERS, HEADER_ANSWER_NUMBERS, ROW_NUMBERS,
+    SALVAGE_ANSWER_NUMBERS,
 };
 
 extern "C" {
@@ -79,6 +80,17 @@ extern "C" {
         out: *mut u8,
         out_len: usize,
         answer: *mut SalvageAnswer,
+    );
+    fn ferrysprig_aht(
+        data: *const u8,
+        data_len: usize,
+        at: usize,
+        end: usize,
+        hebap: *const u8,
+        hebap_len: usize,
+        first: usize,
+        past: usize,
+        answer: *mut AhtAnswer,
     );
 }
 
@@ -177,6 +189,34 @@ pub fn set(capture: &mut [u8], place: usize, position: usize, width: usize, valu
             value,
         )
     }
+}
+
+/// Walks over the AHT section at bit `at` of `data`, up to bit `end`, for the bins from `first` on and before `past`.
+pub fn aht(
+    data: &[u8],
+    at: usize,
+    end: usize,
+    hebap: &[u8],
+    first: usize,
+    past: usize,
+) -> AhtAnswer {
+    let mut answer = [0; AHT_ANSWER_NUMBERS];
+    // SAFETY: each pointer and length is that of a slice or an array that lives through the call; `answer` is borrowed mutably, so nothing
+    // else refers to it. The function asks nothing more of its caller, writes only there, and keeps no pointer.
+    unsafe {
+        ferrysprig_aht(
+            data.as_ptr(),
+            data.len(),
+            at,
+            end,
+            hebap.as_ptr(),
+            hebap.len(),
+            first,
+            past,
+            &mut answer,
+        );
+    }
+    answer
 }
 
 /// Writes the frame at byte `place` of `capture` to the front of `out` as one burst; the answer, and the bytes that it says were written.

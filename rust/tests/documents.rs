@@ -6,12 +6,12 @@ mod files;
 mod layout;
 
 use ferrysprig::burst::{self, Refusal};
-use ferrysprig::{blocks_into, edit, header, parse, salvage, Field, Role, NAMES, REFUSALS};
+use ferrysprig::{aht, blocks_into, edit, header, parse, salvage, Field, Role, NAMES, REFUSALS};
 use ferrysprig::{LEAST_BYTES, MOST_BYTES, MOST_HEADER_ROWS, MOST_ROWS, ROW_NUMBERS};
 use files::text;
-use layout::{answer_at, burst_answer_at, entry_at, header_answer_at};
+use layout::{aht_answer_at, answer_at, burst_answer_at, entry_at, header_answer_at};
 use layout::{kind, row_at, salvage_answer_at};
-use layout::{ANSWER_NUMBERS, BURST_ANSWER_NUMBERS, ENTRY_NUMBERS};
+use layout::{AHT_ANSWER_NUMBERS, ANSWER_NUMBERS, BURST_ANSWER_NUMBERS, ENTRY_NUMBERS};
 use layout::{HEADER_ANSWER_NUMBERS, SALVAGE_ANSWER_NUMBERS};
 
 #[test]
@@ -101,6 +101,14 @@ fn texts_are_those_of_the_header() {
     ] {
         say(refusal.number(), refusal.meaning());
     }
+    // (Refusal 6 of a section has a frame's number and its own text.)
+    for refusal in [
+        aht::Refusal::WrongGain,
+        aht::Refusal::WrongHebap,
+        aht::Refusal::NoSuchBin,
+    ] {
+        say(refusal.number(), refusal.meaning());
+    }
     assert_eq!(of_others, said);
 }
 
@@ -115,6 +123,8 @@ fn numbers_are_those_of_the_header() {
     let of_salvage = number("FERRYSPRIG_SALVAGE_ANSWER_NUMBERS");
     assert_eq!(SALVAGE_ANSWER_NUMBERS, of_salvage);
     assert_eq!(ENTRY_NUMBERS, number("FERRYSPRIG_ENTRY_NUMBERS"));
+    let of_aht = number("FERRYSPRIG_AHT_ANSWER_NUMBERS");
+    assert_eq!(AHT_ANSWER_NUMBERS, of_aht);
     assert_eq!(MOST_ROWS, number("FERRYSPRIG_MOST_ROWS"));
     assert_eq!(MOST_HEADER_ROWS, number("FERRYSPRIG_MOST_HEADER_ROWS"));
     assert_eq!(MOST_BYTES, number("FERRYSPRIG_MOST_BYTES"));
@@ -202,6 +212,11 @@ fn places_are_those_of_the_header() {
         ("LENGTH", entry_at::LENGTH),
     ];
     let kinds = [("FRAME", kind::FRAME), ("GAP", kind::GAP)];
+    let aht = [
+        ("REFUSAL", aht_answer_at::REFUSAL),
+        ("END", aht_answer_at::END),
+        ("TAGS", aht_answer_at::TAGS),
+    ];
     let own = |ours: &[(&str, usize)]| {
         let pairs = ours.iter().map(|(name, at)| (name.to_string(), *at));
         pairs.collect::<Vec<_>>()
@@ -213,6 +228,7 @@ fn places_are_those_of_the_header() {
     assert_eq!(places("FERRYSPRIG_SALVAGE_ANSWER_"), own(&of_salvage));
     assert_eq!(places("FERRYSPRIG_ENTRY_"), own(&entry));
     assert_eq!(places("FERRYSPRIG_KIND_"), own(&kinds));
+    assert_eq!(places("FERRYSPRIG_AHT_ANSWER_"), own(&aht));
 }
 
 #[test]

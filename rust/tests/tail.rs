@@ -1,5 +1,5 @@
-//! The hand-over that the crate's documentation describes, with the original's own files: its `read_tail` goes on where the audio ends, on
-//! the crate's fields, and the list is the original's.
+//! The hand-overs that the crate's documentation describes, with the original's own files: its `read_tail` goes on where the audio ends, on
+//! the crate's fields, and the list is the original's; and its callers of `aht` call the crate's walk.
 
 #![allow(dead_code, unused_imports)] // of the original's files only a part is used
 
@@ -29,6 +29,8 @@ mod files;
 
 use error::{Error, Result};
 use frame::{read_tail, Codec};
+use judge::aht::{can_be_published, published};
+use judge::aht_cases::{Case, Sections};
 use syntax::{Cursor, Field};
 
 impl From<ferrysprig::Refusal> for Error {
@@ -49,6 +51,45 @@ pub fn fields(data: &[u8]) -> Result<Vec<Field>> {
     };
     read_tail(&mut cur, total, Codec::Ac3)?;
     Ok(cur.fields)
+}
+
+impl From<ferrysprig::aht::Refusal> for Error {
+    fn from(refusal: ferrysprig::aht::Refusal) -> Error {
+        Error::Invalid(refusal.to_string())
+    }
+}
+
+pub fn aht(cur: &mut Cursor<'_>, hebap: &[u8], start: usize, end: usize) -> Result<usize> {
+    let section = ferrysprig::aht::walk(cur.data, cur.pos, cur.limit, hebap, start..end)?;
+    cur.pos = section.end;
+    Ok(section.tags)
+}
+
+#[test]
+fn sections_by_the_originals_callers() {
+    let mut met = [0; 2];
+    let mut compare = |case: &Case<'_>| {
+        if !can_be_published(&case.asked) {
+            return;
+        }
+        let asked = &case.asked;
+        let mut cur = Cursor {
+            data: asked.data,
+            pos: asked.at,
+            limit: asked.end,
+            fields: Vec::new(),
+            block: -1,
+        };
+        let ours = aht(&mut cur, asked.hebap, asked.first, asked.past);
+        let (original, _) = published(asked);
+        met[usize::from(ours.is_ok())] += 1;
+        match ours {
+            Ok(tags) => assert_eq!(original, [0, cur.pos, tags]),
+            Err(_) => assert_ne!(original[0], 0),
+        }
+    };
+    Sections::new(2, &mut compare).run(0);
+    assert!(met.iter().all(|times| *times > 5_000), "{met:?}");
 }
 
 #[test]
@@ -86,7 +127,7 @@ fn a_refusal_becomes_the_callers_error() {
 #[test]
 fn the_documentation_shows_what_is_compiled_here() {
     let compiled = files::text("rust/tests/tail.rs") + &files::text("rust/tests/tail/syntax.rs");
-    let crate_text = files::text("rust/src/lib.rs");
+    let crate_text = files::text("rust/src/lib.rs") + &files::text("rust/src/aht.rs");
     let mut shown = 0;
     for block in crate_text.split("//! ```text\n").skip(1) {
         let (block, _) = block.split_once("//! ```\n").unwrap();
@@ -95,7 +136,7 @@ fn the_documentation_shows_what_is_compiled_here() {
         assert!(compiled.contains(&code), "not compiled:\n{code}");
         shown += 1;
     }
-    assert_eq!(shown, 3);
+    assert_eq!(shown, 4);
 }
 
 /// tail/syntax.rs is the original's but for what the documentation says: its two types, and how it makes elements.

@@ -3,12 +3,15 @@
 pub mod draw;
 
 use judge::alloc::{allocate, Channel, DeltaSeg, Params};
-use judge::tables::{BAP, DB_KNEE, FAST_DECAY, FAST_GAIN, FLOOR, SLOW_DECAY, SLOW_GAIN};
+use judge::tables::{BAP, DB_KNEE, FAST_DECAY, FAST_GAIN, FLOOR, HEBAP, SLOW_DECAY, SLOW_GAIN};
 
 /// The bins of an array of exponents or pointers.
 pub const BINS: usize = 256;
 
-/// The parameters of one call, by their codes.
+/// The tables of pointers, by the numbers that choose them.
+pub const TABLES: [(&str, &[u8; 64]); 2] = [("BAP", &BAP), ("HEBAP", &HEBAP)];
+
+/// The parameters of one call but for its table, by their codes.
 #[derive(Debug)]
 pub struct Set {
     pub exponents: [i16; BINS],
@@ -49,11 +52,12 @@ extern "C" {
         segments: &[u8; 24],
         count: usize,
         out: &mut [u8; BINS],
+        which: u8,
     ) -> bool;
 }
 
-/// The port's answer: whether the set was taken, and the pointers in `out`.
-pub fn by_port(s: &Set, out: &mut [u8; BINS]) -> bool {
+/// The port's answer by the table of a number: whether the set was taken, and the pointers in `out`.
+pub fn by_port(s: &Set, out: &mut [u8; BINS], which: u8) -> bool {
     // SAFETY: the arrays have the lengths that are asked for; the port asks nothing else of its caller, and keeps nothing.
     unsafe {
         ferrysprig_allocate(
@@ -74,12 +78,13 @@ pub fn by_port(s: &Set, out: &mut [u8; BINS]) -> bool {
             &s.segments,
             s.count,
             out,
+            which,
         )
     }
 }
 
-/// The judge's answer to a set that fits: the pointers up to the end of the range.
-pub fn by_judge(s: &Set) -> Vec<u8> {
+/// The judge's answer to a set that fits, by a table: the pointers up to the end of the range.
+pub fn by_judge(s: &Set, table: &[u8; 64]) -> Vec<u8> {
     let mut delta = [DeltaSeg { offset: 0, len: 0, ba: 0 }; 8];
     for (d, part) in delta[..s.count].iter_mut().zip(s.segments.chunks_exact(3)) {
         *d = DeltaSeg { offset: part[0], len: part[1], ba: part[2] };
@@ -101,10 +106,10 @@ pub fn by_judge(s: &Set) -> Vec<u8> {
         floor: FLOOR[usize::from(s.floorcod)].into(),
         fscod: s.fscod,
     };
-    allocate(&channel, &params, &BAP)
+    allocate(&channel, &params, table)
 }
 
-/// Whether a set is one that the port takes: docs/PROMISES.md in words of Rust.
+/// Whether a set is one that the port takes, by a table that there is: docs/PROMISES.md in words of Rust.
 pub fn fits(s: &Set) -> bool {
     (s.start == 0 || s.start >= 37)
         && s.end <= 253

@@ -8,8 +8,8 @@ use Rattle.syntax.specs.Grammar.{_>>=_, turns}
 use Rattle.syntax.specs.Numbers.{shown}
 use Rattle.syntax.specs.Place.{except, exec, andThen, flatten, landing, finish}
 use Rattle.syntax.specs.Run.{roomCheck, check, sum, unless, run, continue}
-use Rattle.tables.specs.Tables.{nfchans, words48, words44, words32, frameBytes, slowDecay, fastDecay, slowGain, knee, floor, fastGain, bandEnd, logAdd, hearing, bap, bapBits}
-use Rattle.alloc.specs.Allocation.{from, placed, snrOffset, psdOf, mappedPsd, logadd, bandSum, bandOf, startOf, endOf, bandPsd, integratedPsd, lowcomp, lowAfter, rises, startLeak, fallTo, fallBy, fallLeak, leakStep, excitations, excitation, overKnee, maskOf, maskingCurve, deltaOf, passed, deltaIn, deltaSum, deltaApplied, kept, threshold, thresholds, addressOf, bapOf, pointers as Allocation-pointers, allocation}
+use Rattle.tables.specs.Tables.{nfchans, words48, words44, words32, frameBytes, slowDecay, fastDecay, slowGain, knee, floor, fastGain, bandEnd, logAdd, hearing, bap, hebap, bapBits, vqBits, gaqBits}
+use Rattle.alloc.specs.Allocation.{from, placed, snrOffset, psdOf, mappedPsd, logadd, bandSum, bandOf, startOf, endOf, bandPsd, integratedPsd, lowcomp, lowAfter, rises, startLeak, fallTo, fallBy, fallLeak, leakStep, excitations, excitation, overKnee, maskOf, maskingCurve, deltaOf, passed, deltaIn, deltaSum, deltaApplied, kept, threshold, thresholds, addressOf, bapOf, pointers as Allocation-pointers, allocationBy}
 use Rattle.parameters.specs.Delta.{deltaCode, channelCode, segment, newDeltas, slotDeltas, codedDeltas, deltas}
 use Rattle.parameters.specs.Parameters.{newCurve, curve, fineOffset, channelOffset, newOffsets, offsets, newLeak, couplingLeak}
 use Rattle.exponents.specs.Exponents.{step, unpack, group, exponentSet, slotExponents, channelExponents, exponents}
@@ -448,7 +448,7 @@ accepted :
     × (listing 1820 off-and-on ≡ 193 ∷ 484 ∷ 1316331983646767939 ∷ 0 ∷ 128 ∷ 8 ∷ 2 ∷ 0 ∷ 0 ∷ 5 ∷ 67 ∷ 268 ∷ 392 ∷ 424 ∷ 444 ∷ 464 ∷ 268 ∷ 392 ∷ 424 ∷ 444 ∷ 464 ∷ 484 ∷ 1 ∷ [])
     × (listing 1820 a-block-late ≡ 176 ∷ 396 ∷ 804892608931913972 ∷ 0 ∷ 128 ∷ 8 ∷ 2 ∷ 0 ∷ 0 ∷ 6 ∷ 67 ∷ 276 ∷ 316 ∷ 336 ∷ 356 ∷ 376 ∷ 276 ∷ 316 ∷ 336 ∷ 356 ∷ 376 ∷ 396 ∷ 0 ∷ [])
     × (listing 1820 programmes-coupled ≡ 174 ∷ 397 ∷ 1943488180946144133 ∷ 0 ∷ 128 ∷ 8 ∷ 0 ∷ 0 ∷ 0 ∷ 6 ∷ 73 ∷ 297 ∷ 317 ∷ 337 ∷ 357 ∷ 377 ∷ 297 ∷ 317 ∷ 337 ∷ 357 ∷ 377 ∷ 397 ∷ 1 ∷ [])
-unfolding bitAt value bitsBefore sameBits rangeEq _>>=_ turns shown except exec andThen flatten landing finish roomCheck check sum unless run continue nfchans words48 words44 words32 frameBytes slowDecay fastDecay slowGain knee floor fastGain bandEnd logAdd hearing bap bapBits from placed snrOffset psdOf mappedPsd logadd bandSum bandOf startOf endOf bandPsd integratedPsd lowcomp lowAfter rises startLeak fallTo fallBy fallLeak leakStep excitations excitation overKnee maskOf maskingCurve deltaOf passed deltaIn deltaSum deltaApplied kept threshold thresholds addressOf bapOf Allocation-pointers allocation deltaCode channelCode segment newDeltas slotDeltas codedDeltas deltas newCurve curve fineOffset channelOffset newOffsets offsets newLeak couplingLeak step unpack group exponentSet slotExponents channelExponents exponents silent Mantissas-pointers allPointers widths mantissas channelParts parts syncinfo programmeInfo alternateInfo timeCodes additionalInfo bsi header howMany coupledChannels joined couplingBands newCoupling couplingStrategy coordinate channelCoordinates phaseFlags couplingCoordinates rematrixing channelStrategies exponentStrategies bandwidth bandwidths channelEnd channelEnds channelFlags dynamicRange channelSettings couplingSection exponentSection skipField allocState audioBlock audio syncframe answered bytes plusOne checksum verdict short every some coordinatesSent
+unfolding bitAt value bitsBefore sameBits rangeEq _>>=_ turns shown except exec andThen flatten landing finish roomCheck check sum unless run continue nfchans words48 words44 words32 frameBytes slowDecay fastDecay slowGain knee floor fastGain bandEnd logAdd hearing bap hebap bapBits vqBits gaqBits from placed snrOffset psdOf mappedPsd logadd bandSum bandOf startOf endOf bandPsd integratedPsd lowcomp lowAfter rises startLeak fallTo fallBy fallLeak leakStep excitations excitation overKnee maskOf maskingCurve deltaOf passed deltaIn deltaSum deltaApplied kept threshold thresholds addressOf bapOf Allocation-pointers allocationBy deltaCode channelCode segment newDeltas slotDeltas codedDeltas deltas newCurve curve fineOffset channelOffset newOffsets offsets newLeak couplingLeak step unpack group exponentSet slotExponents channelExponents exponents silent Mantissas-pointers allPointers widths mantissas channelParts parts syncinfo programmeInfo alternateInfo timeCodes additionalInfo bsi header howMany coupledChannels joined couplingBands newCoupling couplingStrategy coordinate channelCoordinates phaseFlags couplingCoordinates rematrixing channelStrategies exponentStrategies bandwidth bandwidths channelEnd channelEnds channelFlags dynamicRange channelSettings couplingSection exponentSection skipField allocState audioBlock audio syncframe answered bytes plusOne checksum verdict short every some coordinatesSent
 accepted = (refl, refl, refl, refl, refl, refl, refl, refl, refl, refl, refl, refl, refl, refl, refl, refl, refl, refl, refl, refl, refl, refl, refl, refl, refl, refl, refl, refl, refl, refl)
 
 refused :
@@ -484,5 +484,5 @@ refused :
     × (listing 1820 refusal-21 ≡ 26 ∷ 75 ∷ 1681950038189532974 ∷ 21 ∷ 0 ∷ 0 ∷ [])
     × (listing 1820 refusal-22 ≡ 33 ∷ 127 ∷ 1780880590504274166 ∷ 22 ∷ 0 ∷ 0 ∷ [])
     × (listing 1820 refusal-23 ≡ 40 ∷ 146 ∷ 2001894335952279341 ∷ 23 ∷ 0 ∷ 0 ∷ [])
-unfolding bitAt value bitsBefore sameBits rangeEq _>>=_ turns shown except exec andThen flatten landing finish roomCheck check sum unless run continue nfchans words48 words44 words32 frameBytes slowDecay fastDecay slowGain knee floor fastGain bandEnd logAdd hearing bap bapBits from placed snrOffset psdOf mappedPsd logadd bandSum bandOf startOf endOf bandPsd integratedPsd lowcomp lowAfter rises startLeak fallTo fallBy fallLeak leakStep excitations excitation overKnee maskOf maskingCurve deltaOf passed deltaIn deltaSum deltaApplied kept threshold thresholds addressOf bapOf Allocation-pointers allocation deltaCode channelCode segment newDeltas slotDeltas codedDeltas deltas newCurve curve fineOffset channelOffset newOffsets offsets newLeak couplingLeak step unpack group exponentSet slotExponents channelExponents exponents silent Mantissas-pointers allPointers widths mantissas channelParts parts syncinfo programmeInfo alternateInfo timeCodes additionalInfo bsi header howMany coupledChannels joined couplingBands newCoupling couplingStrategy coordinate channelCoordinates phaseFlags couplingCoordinates rematrixing channelStrategies exponentStrategies bandwidth bandwidths channelEnd channelEnds channelFlags dynamicRange channelSettings couplingSection exponentSection skipField allocState audioBlock audio syncframe answered bytes plusOne checksum verdict short every some coordinatesSent
+unfolding bitAt value bitsBefore sameBits rangeEq _>>=_ turns shown except exec andThen flatten landing finish roomCheck check sum unless run continue nfchans words48 words44 words32 frameBytes slowDecay fastDecay slowGain knee floor fastGain bandEnd logAdd hearing bap hebap bapBits vqBits gaqBits from placed snrOffset psdOf mappedPsd logadd bandSum bandOf startOf endOf bandPsd integratedPsd lowcomp lowAfter rises startLeak fallTo fallBy fallLeak leakStep excitations excitation overKnee maskOf maskingCurve deltaOf passed deltaIn deltaSum deltaApplied kept threshold thresholds addressOf bapOf Allocation-pointers allocationBy deltaCode channelCode segment newDeltas slotDeltas codedDeltas deltas newCurve curve fineOffset channelOffset newOffsets offsets newLeak couplingLeak step unpack group exponentSet slotExponents channelExponents exponents silent Mantissas-pointers allPointers widths mantissas channelParts parts syncinfo programmeInfo alternateInfo timeCodes additionalInfo bsi header howMany coupledChannels joined couplingBands newCoupling couplingStrategy coordinate channelCoordinates phaseFlags couplingCoordinates rematrixing channelStrategies exponentStrategies bandwidth bandwidths channelEnd channelEnds channelFlags dynamicRange channelSettings couplingSection exponentSection skipField allocState audioBlock audio syncframe answered bytes plusOne checksum verdict short every some coordinatesSent
 refused = (refl, refl, refl, refl, refl, refl, refl, refl, refl, refl, refl, refl, refl, refl, refl, refl, refl, refl, refl, refl, refl, refl, refl, refl, refl, refl, refl, refl, refl, refl, refl, refl)

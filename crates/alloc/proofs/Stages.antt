@@ -9,7 +9,7 @@ use lib.IntN.{ℤ, pos, _+ℤ_}
 use lib.Pow.{pow-pos}
 use Rattle.signed.specs.Bound.{Below}
 use Rattle.signed.proofs.Bounds.{below-cond}
-use Rattle.alloc.specs.Allocation.{from, psdAt, mappedPsd, bandSum, bandOf, startOf, endOf, bandPsd, bndstrt, bndend, integratedPsd, leakBefore, excitation, maskOf, maskingCurve, deltaSum, deltaApplied, threshold, thresholds, bapOf, pointers, allocation}
+use Rattle.alloc.specs.Allocation.{from, psdAt, mappedPsd, bandSum, bandOf, startOf, endOf, bandPsd, bndstrt, bndend, integratedPsd, leakBefore, excitation, maskOf, maskingCurve, deltaSum, deltaApplied, threshold, thresholds, bapOf, pointers, allocationBy}
 use Rattle.alloc.specs.Sound.{Exponents}
 use Rattle.alloc.specs.Fills.{within}
 use Rattle.alloc.specs.Leaks.{exciteAt}
@@ -96,12 +96,13 @@ module _ (exponents : List ℤ) (p : Parameters) where
     pub limit-below : Below 11 (p .floor) → Below 14 (thresholdsOf exponents p band)
     limit-below h = rw threshold-is (threshold-below _ (p .snroffset) (p .floor) h)
 
-  -- the pointers, bin by bin
-  pub pointers-are : (f : ℕ → ℕ) → ((bin : ℕ) → p .start ≤ bin → bin < p .end → f bin ≡ bapOf (psdAt exponents bin) (thresholdsOf exponents p (bandOf bin)))
-      → from (p .start) (p .end - p .start) f ≡ allocation exponents p
-  unfolding allocation pointers mappedPsd
+-- the pointers by a table, bin by bin
+module _ (baps : List ℕ) (exponents : List ℤ) (p : Parameters) where
+  pub pointers-are : (f : ℕ → ℕ) → ((bin : ℕ) → p .start ≤ bin → bin < p .end → f bin ≡ bapOf baps (psdAt exponents bin) (thresholdsOf exponents p (bandOf bin)))
+      → from (p .start) (p .end - p .start) f ≡ allocationBy baps exponents p
+  unfolding allocationBy pointers mappedPsd
   pointers-are f is =
       from-same f _ (p .end - p .start) (p .start)
       (λ bin a b.
       is bin a (omega arith)
-      ∙ ap (λ (z : ℤ). bapOf z (thresholdsOf exponents p (bandOf bin))) (sym (noted-in (p .start) (p .end) (psdAt exponents) bin a (omega arith))))
+      ∙ ap (λ (z : ℤ). bapOf baps z (thresholdsOf exponents p (bandOf bin))) (sym (noted-in (p .start) (p .end) (psdAt exponents) bin a (omega arith))))

@@ -5,7 +5,7 @@ use lib.IntN.{ℤ, pos, natAbs, _+ℤ_, _-ℤ_}
 use lib.ListN.{getD}
 use lib.Signed.{_≤ℤ_}
 use Rattle.signed.specs.Level.{maxZ}
-use Rattle.tables.specs.Tables.{hearing, bap}
+use Rattle.tables.specs.Tables.{hearing}
 use Rattle.alloc.specs.Allocation.{at, psdOf, overKnee, threshold, mappedPsd, integratedPsd, excitation, maskingCurve, deltaApplied, thresholds}
 use Rattle.alloc.specs.declared.Parameters.{Parameters}
 
@@ -23,8 +23,8 @@ abbrev pub Address : ℤ → Type 0
 Address z = (pos 0 ≤ℤ z) × (z ≤ℤ pos 63)
 
 -- the pointer at a bin's address
-abbrev pub bapAt : List ℤ → ℕ → ℕ
-bapAt addresses bin = getD bap (natAbs (at addresses bin)) 0
+abbrev pub bapAt : (baps : List ℕ) → List ℤ → ℕ → ℕ
+bapAt baps addresses bin = getD baps (natAbs (at addresses bin)) 0
 
 -- a bin's psd less that of exponent 0: sums of these are the sums of psd less 3072 (`proofs/Sum`), and take fewer instructions
 unfoldable pub relative : ℤ → ℤ

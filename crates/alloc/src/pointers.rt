@@ -10,7 +10,7 @@ ghost use lib.IntN.{pos};
 ghost use lib.ListN.{length, replicate};
 ghost use lib.Signed.{ltZ};
 ghost use Rattle.signed.specs.Bound.{Below};
-ghost use Rattle.tables.specs.Tables.{bandEnd, hearing, bap};
+ghost use Rattle.tables.specs.Tables.{bandEnd, hearing};
 ghost use Rattle.alloc.specs.Allocation.{at, psdAt, bandOf, startOf, endOf, threshold, addressOf};
 ghost use Rattle.alloc.specs.Sound.{Exponents};
 ghost use Rattle.alloc.specs.Fills.{within, Fills};
@@ -155,7 +155,7 @@ pub fn no_bins() -> [i32; 256]
     [0i32; 256]
 }
 
-// The pointers at the addresses of the bins.
+// The pointers at the addresses of the bins, by a table.
 pub fn pointers(
     out: &mut [u8; 256],
     baps: &[u8; 64],
@@ -163,8 +163,8 @@ pub fn pointers(
     start: usize,
     end: usize,
 )
-    requires { ⌜ (length (now out) ≡ 256) × (now baps ≡ bap) × (start ≤ end) × (end ≤ 256) × ((bin : ℕ) → start ≤ bin → bin < end → Address (at (now addresses) bin)) ⌝ }
-    ensures { λ _. ⌜ Fills 0 start end (bapAt (now (addresses .entry))) (now (out .entry)) (now (out .exit)) ⌝ }
+    requires { ⌜ (length (now out) ≡ 256) × (start ≤ end) × (end ≤ 256) × ((bin : ℕ) → start ≤ bin → bin < end → Address (at (now addresses) bin)) ⌝ }
+    ensures { λ _. ⌜ Fills 0 start end (bapAt (now (baps .entry)) (now (addresses .entry))) (now (out .entry)) (now (out .exit)) ⌝ }
 {
     for bin in start..end {
         out[bin] = baps[addresses[bin] as usize];

@@ -4,7 +4,7 @@ use alloc::Gains;
 use alloc::Parameters;
 ghost use mathlib.Core.Bool.{cond, _&&_};
 ghost use mathlib.Core.Path.{_≡_};
-ghost use Rattle.alloc_probe.specs.Accepted.{startFits, rangeFits, codesFit, isExponent, exponentsFit, accepted, parametersOf, answer};
+ghost use Rattle.alloc_probe.specs.Accepted.{startFits, rangeFits, codesFit, isExponent, exponentsFit, accepted, parametersOf, tableOf, answer};
 
 // A slot starts at bin 0, and the coupling channel at bin 37 or later.
 fn start_fits(start: usize) -> bool
@@ -19,8 +19,8 @@ fn range_fits(start: usize, end: usize) -> bool
     start_fits(start) && end <= 253
 }
 
-fn codes_fit(fscod: usize, csnroffst: u8, fsnroffst: u8, count: usize) -> bool
-    ensures { λ r. ⌜ r ≡ codesFit fscod csnroffst fsnroffst count ⌝ }
+fn codes_fit(fscod: usize, csnroffst: u8, fsnroffst: u8, count: usize, which: u8) -> bool
+    ensures { λ r. ⌜ r ≡ codesFit fscod csnroffst fsnroffst count which ⌝ }
 {
     if 2 < fscod {
         return false;
@@ -31,7 +31,10 @@ fn codes_fit(fscod: usize, csnroffst: u8, fsnroffst: u8, count: usize) -> bool
     if 15 < fsnroffst {
         return false;
     }
-    count <= 8
+    if 8 < count {
+        return false;
+    }
+    which <= 1
 }
 
 fn is_exponent(e: i16) -> bool
@@ -54,8 +57,18 @@ fn exponents_fit(exponents: [i16; 256]) -> bool
     fit
 }
 
-// The pointers of the bins from start up to end, and 0 for every other bin, of a call that `accepted` has; of any other call the answer is
-// false, and nothing is written.
+// The table of pointers that a call chooses.
+fn table_of(which: u8) -> [u8; 64]
+    ensures { λ r. ⌜ r ≡ tableOf which ⌝ }
+{
+    if which == 0 {
+        return tables::bit_allocation_pointers();
+    }
+    tables::high_efficiency_pointers()
+}
+
+// The pointers of the bins from start up to end, by Table 6.16 (which 0) or by that of E.2.4.3.1 (which 1), and 0 for every other bin, of a
+// call that `accepted` has; of any other call the answer is false, and nothing is written.
 #[no_mangle]
 pub extern "C" fn ferrysprig_allocate(
     exponents: &[i16; 256],
@@ -75,13 +88,14 @@ pub extern "C" fn ferrysprig_allocate(
     segments: &[u8; 24],
     count: usize,
     out: &mut [u8; 256],
+    which: u8,
 ) -> bool
-    ensures { λ r. ⌜ (r ≡ accepted (now (exponents .entry)) start end fscod csnroffst fsnroffst count) × (now (out .exit) ≡ cond r (answer (now (exponents .entry)) (parametersOf start end sdcycod fdcycod sgaincod dbpbcod floorcod fgaincod fscod csnroffst fsnroffst fastleak slowleak (now (segments .entry)) count)) (now (out .entry))) ⌝ }
+    ensures { λ r. ⌜ (r ≡ accepted (now (exponents .entry)) start end fscod csnroffst fsnroffst count which) × (now (out .exit) ≡ cond r (answer which (now (exponents .entry)) (parametersOf start end sdcycod fdcycod sgaincod dbpbcod floorcod fgaincod fscod csnroffst fsnroffst fastleak slowleak (now (segments .entry)) count)) (now (out .entry))) ⌝ }
 {
     if !range_fits(start, end) {
         return false;
     }
-    if !codes_fit(fscod, csnroffst, fsnroffst, count) {
+    if !codes_fit(fscod, csnroffst, fsnroffst, count, which) {
         return false;
     }
     if !exponents_fit(*exponents) {
@@ -107,6 +121,7 @@ pub extern "C" fn ferrysprig_allocate(
         snroffset: alloc::snr_offset(csnroffst, fsnroffst),
         floor: tables::floor(floorcod),
     };
-    *out = alloc::allocate(exponents, parameters);
+    let baps = table_of(which);
+    *out = alloc::allocate(&baps, exponents, parameters);
     true
 }

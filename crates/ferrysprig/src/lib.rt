@@ -19,6 +19,8 @@ ghost use Rattle.edits.specs.Edits as edits;
 ghost use Rattle.ac3.specs.Apart.{headerTo};
 ghost use Rattle.ferrysprig.specs.Apart.{headerTold, blocksHeld};
 ghost use Rattle.salvage.specs.Lent.{salvaged};
+ghost use Rattle.aht.specs.Aht.{ahtOf};
+ghost use Rattle.ferrysprig.specs.Aht.{ahtNumbers};
 ghost use Rattle.ferrysprig.specs.Bursts.{burstInOrder, burstNumbers, burstTold};
 ghost use Rattle.ferrysprig.specs.Numbers.{flag, inOrder, answerNumbers, told};
 ghost use Rattle.ferrysprig.specs.Promise.{PromisedNumbers};
@@ -230,4 +232,22 @@ pub extern "C" fn ferrysprig_salvage(
     ensures { λ _. ⌜ ((now (answer .exit), (now (list .exit), now (out .exit))), now (rows .exit)) ≡ salvageTold (salvaged (now (capture .entry)) (now (rows .entry)) (now (list .entry)) (now (out .entry))) ⌝ }
 {
     *answer = salvage_numbers(salvage::salvage(capture, rows, list, out));
+}
+
+// Walks over an AHT section from bit `at` on, with the bins from first up to past, where nothing may end past bit `end`, and writes the
+// answer's numbers.
+#[no_mangle]
+pub extern "C" fn ferrysprig_aht(
+    bytes: &[u8],
+    at: usize,
+    end: usize,
+    hebap: &[u8],
+    first: usize,
+    past: usize,
+    answer: &mut [usize; 3],
+)
+    ensures { λ _. ⌜ now (answer .exit) ≡ ahtNumbers (ahtOf (now (bytes .entry)) at end (now (hebap .entry)) first past) ⌝ }
+{
+    let walked = aht::aht(bytes, at, end, hebap, first, past);
+    *answer = [walked.refusal as usize, walked.end, walked.tags];
 }

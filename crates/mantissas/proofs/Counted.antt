@@ -10,7 +10,7 @@ use lib.Dec.{eqb}
 use lib.IntN.{ℤ}
 use lib.ListN.{length, getD, replicate}
 use borrow.Author.Tests.{eqb-true, eqb-false}
-use Rattle.tables.specs.Tables.{bapBits, mantissaBits}
+use Rattle.tables.specs.Tables.{bap, bapBits, mantissaBits}
 use Rattle.tables.proofs.Rules.{small-at}
 use Rattle.alloc.proofs.Laws.{allocation-length}
 use Rattle.alloc.proofs.Noted.{from-length}
@@ -177,7 +177,7 @@ unpacked total baps e h =
 pub pointers-at-most : (fscod : ℕ) (st : AllocState) (exps : List (List ℤ)) (p : Part) → p .end ≤ 253 → AtMost 253 (countedAll noCounts (pointers fscod st exps p))
 unfolding pointers
 pointers-at-most fscod st exps p h =
-    no-more (at-most noCounts (pointers fscod st exps p) none-counted) (rw (allocation-length (getD exps (p .slot) []) (parametersOf fscod st p)) (omega arith))
+    no-more (at-most noCounts (pointers fscod st exps p) none-counted) (rw (allocation-length bap (getD exps (p .slot) []) (parametersOf fscod st p)) (omega arith))
 
 -- pointers that are all 0 count for nothing
 pub silent-counts : (n : ℕ) → noCounts ≡ countedAll noCounts (replicate n 0)

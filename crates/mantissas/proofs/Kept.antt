@@ -11,6 +11,7 @@ use lib.IntN.{ℤ}
 use lib.ListN.{length, length-set, getD, set, replicate}
 use lib.Seq.{getD-set-same, getD-set-other}
 use borrow.Author.Tests.{eqb-true, eqb-false}
+use Rattle.tables.specs.Tables.{bap}
 use Rattle.alloc.proofs.Laws.{allocation-none, allocation-unsegmented}
 use Rattle.slots.specs.Slots.{isNew}
 use Rattle.slots.specs.declared.AllocState.{AllocState}
@@ -26,7 +27,7 @@ use Rattle.mantissas.specs.declared.Part.{Part}
 by-memo : (fscod : ℕ) (st : AllocState) (exps : List (List ℤ)) (p : Part) (n : Counts) → deltasOf st (p .slot) .count ≡ 0
     → pointers fscod st exps p ≡ pointersBy fscod (p .slot) (λ i. getD (memoOf st p n) i 0) (getD exps (p .slot) [])
 unfolding pointers
-by-memo fscod st exps p n e = allocation-unsegmented (getD exps (p .slot) []) (parametersOf fscod st p) e
+by-memo fscod st exps p n e = allocation-unsegmented bap (getD exps (p .slot) []) (parametersOf fscod st p) e
 
 -- what goes by the same has the same pointers
 by-same : (fscod slot : ℕ) (k l : ℕ → ℕ) (row : List ℤ) → ((i : ℕ) → i < 12 → k i ≡ l i) → pointersBy fscod slot k row ≡ pointersBy fscod slot l row
@@ -69,7 +70,7 @@ keeps fscod slot memos exps memo p all here = record { seven = length-set memos 
 -- nothing is kept: no bins, none counted
 kept-nothing : (fscod slot : ℕ) (row : List ℤ) → KeptOf fscod slot nothing row
 unfolding countedAll
-kept-nothing fscod slot row = rw (allocation-none row (parametersBy fscod slot (λ i. getD nothing i 0)) zero-le)
+kept-nothing fscod slot row = rw (allocation-none bap row (parametersBy fscod slot (λ i. getD nothing i 0)) zero-le)
 
 pub kept-none : (fscod : ℕ) (exps : List (List ℤ)) → Kept fscod (replicate 7 nothing) exps
 kept-none fscod exps = record { seven = refl; each = λ slot h. rw (filled-entry 7 slot nothing [] h) (kept-nothing fscod slot (getD exps slot [])) }

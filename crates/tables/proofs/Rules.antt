@@ -1,12 +1,12 @@
--- Rules of tables, computed once over the whole table and carried to every entry: one whose entries are at most a bound, and one
--- that falls by at most one from entry to entry. Assumes nothing.
+-- Rules of tables, computed once over the whole table and carried to every entry: one whose entries are at most or at least a bound, and
+-- one that falls by at most one from entry to entry. Assumes nothing.
 use mathlib.Core.Bool.{Bool, true, _&&_}
 use mathlib.Core.List.{List, [], _∷_}
-use Prim.Native.Nat.{ℕ, zero, suc, _≤_, _^_, zero-le}
-use native.Mathlib.Nat.{le-trans}
+use Prim.Native.Nat.{ℕ, zero, suc, _≤_, _<_, _^_, zero-le}
+use native.Mathlib.Nat.{le-trans, not-suc-le-zero, le-of-suc-le-suc}
 use lib.Dec.{T, leb, ltb, leb→le, ltb→lt}
 use lib.IntN.{ℤ, pos}
-use lib.ListN.{getD}
+use lib.ListN.{length, getD}
 use lib.Pow.{pow-pos}
 use lib.Signed.{mag}
 use store.Enc.{and-l, and-r}
@@ -21,6 +21,16 @@ pub small-at : (n : ℕ) (ys : List ℕ) → T (small n ys) → (k : ℕ) → ge
 small-at n [] t k = zero-le
 small-at n (y ∷ ys) t zero = leb→le y n (and-l (leb y n) (small n ys) t)
 small-at n (y ∷ ys) t (suc k) = small-at n ys (and-r (leb y n) (small n ys) t) k
+
+-- each entry is at least n
+abbrev pub large : ℕ → List ℕ → Bool
+large n [] = true
+large n (y ∷ ys) = leb n y && large n ys
+
+pub large-at : (n : ℕ) (ys : List ℕ) → T (large n ys) → (k : ℕ) → k < length ys → n ≤ getD ys k 0
+large-at n [] t k h = absurd (not-suc-le-zero h)
+large-at n (y ∷ ys) t zero h = leb→le n y (and-l (leb n y) (large n ys) t)
+large-at n (y ∷ ys) t (suc k) h = large-at n ys (and-r (leb n y) (large n ys) t) k (le-of-suc-le-suc h)
 
 -- each entry is below k bits
 abbrev pub near : ℕ → List ℤ → Bool

@@ -1,5 +1,5 @@
--- The tables of TS 102 366, as lists and functions: of a frame's size and channels (4.4), of the bit allocation (6.2.2) and of the
--- mantissas (6.3.5). Past its last entry a table has 0. Assumes nothing.
+-- The tables of TS 102 366, as lists and functions: of a frame's size and channels (4.4), of the bit allocation (6.2.2), of the mantissas
+-- (6.3.5) and of the adaptive hybrid transform (E.2.4). Past its last entry a table has 0. Assumes nothing.
 use mathlib.Core.List.{List, [], _∷_}
 use Prim.Native.Nat.{ℕ, _*_, _/_, zero, suc}
 use lib.IntN.{ℤ, pos, negsuc}
@@ -98,9 +98,27 @@ bap =
     8 ∷ 8 ∷ 8 ∷ 9 ∷ 9 ∷ 9 ∷ 9 ∷ 10 ∷ 10 ∷ 10 ∷ 10 ∷ 11 ∷ 11 ∷ 11 ∷ 11 ∷ 12 ∷ 12 ∷ 12 ∷ 12 ∷ 13 ∷ 13 ∷ 13 ∷ 13 ∷ 14 ∷
     14 ∷ 14 ∷ 14 ∷ 14 ∷ 14 ∷ 14 ∷ 14 ∷ 15 ∷ 15 ∷ 15 ∷ 15 ∷ 15 ∷ 15 ∷ 15 ∷ 15 ∷ 15 ∷ []
 
+-- E.2.4.3.1, hebaptab: the pointer of the adaptive hybrid transform (hebap) by the same address
+unfoldable pub hebap : List ℕ
+hebap =
+    0 ∷ 1 ∷ 2 ∷ 3 ∷ 4 ∷ 5 ∷ 6 ∷ 7 ∷ 8 ∷ 8 ∷ 8 ∷ 8 ∷ 9 ∷ 9 ∷ 9 ∷ 10 ∷ 10 ∷ 10 ∷ 10 ∷ 11 ∷ 11 ∷ 11 ∷ 11 ∷ 12 ∷
+    12 ∷ 12 ∷ 12 ∷ 13 ∷ 13 ∷ 13 ∷ 13 ∷ 14 ∷ 14 ∷ 14 ∷ 14 ∷ 15 ∷ 15 ∷ 15 ∷ 15 ∷ 16 ∷ 16 ∷ 16 ∷ 16 ∷ 17 ∷ 17 ∷ 17 ∷ 17 ∷ 18 ∷
+    18 ∷ 18 ∷ 18 ∷ 18 ∷ 18 ∷ 18 ∷ 18 ∷ 19 ∷ 19 ∷ 19 ∷ 19 ∷ 19 ∷ 19 ∷ 19 ∷ 19 ∷ 19 ∷ []
+
 -- Table 6.17: the bits of a mantissa by its bap; those of 1, 2 and 4 come in groups
 abbrev pub mantissaBits : List ℕ
 mantissaBits = 0 ∷ 0 ∷ 0 ∷ 3 ∷ 0 ∷ 4 ∷ 5 ∷ 6 ∷ 7 ∷ 8 ∷ 9 ∷ 10 ∷ 11 ∷ 12 ∷ 14 ∷ 16 ∷ []
 
 unfoldable pub bapBits : ℕ → ℕ
 bapBits bap = getD mantissaBits bap 0
+
+-- Table E.2.2: the bits of a vector index, by hebap 0 to 7
+unfoldable pub vqBits : ℕ → ℕ
+vqBits hebap = getD (0 ∷ 2 ∷ 3 ∷ 4 ∷ 5 ∷ 7 ∷ 8 ∷ 9 ∷ []) hebap 0
+
+-- the same table: the bits of a mantissa, by hebap 8 to 19 less 8
+abbrev pub gainBits : List ℕ
+gainBits = 3 ∷ 4 ∷ 5 ∷ 6 ∷ 7 ∷ 8 ∷ 9 ∷ 10 ∷ 11 ∷ 12 ∷ 14 ∷ 16 ∷ []
+
+unfoldable pub gaqBits : ℕ → ℕ
+gaqBits index = getD gainBits index 0

@@ -124,6 +124,28 @@ pub fn fast_gain(fgaincod: u8) -> u16
     }
 }
 
+// Table E.2.2: the bits of a vector index, by hebap 0 to 7.
+pub fn vq_bits(hebap: u8) -> usize
+    ensures { λ r. ⌜ r ≡ standard.vqBits hebap ⌝ }
+{
+    if hebap < 8 {
+        entries::VQ_BITS[hebap as usize]
+    } else {
+        0
+    }
+}
+
+// Table E.2.2: the bits of a mantissa, by hebap 8 to 19 less 8.
+pub fn gaq_bits(index: u8) -> usize
+    ensures { λ r. ⌜ (r ≡ standard.gaqBits index) × (r ≤ 16) ⌝ }
+{
+    if index < 12 {
+        entries::GAQ_BITS[index as usize]
+    } else {
+        0
+    }
+}
+
 // The tables that loops look into are handed out whole, once a call: an array that is looked up is built anew each time.
 
 // Table 6.12: the first bin past each of the 50 bands.
@@ -152,6 +174,13 @@ pub fn bit_allocation_pointers() -> [u8; 64]
     ensures { λ r. ⌜ r ≡ standard.bap ⌝ }
 {
     entries::BAP
+}
+
+// E.2.4.3.1: the same for the adaptive hybrid transform, by the same address.
+pub fn high_efficiency_pointers() -> [u8; 64]
+    ensures { λ r. ⌜ r ≡ standard.hebap ⌝ }
+{
+    entries::HEBAP
 }
 
 // Table 6.17: the bits of a mantissa that stands alone, by its bap.

@@ -1,7 +1,7 @@
 //! alloc_bench CALLS KIND (none|rust|port|tests): makes CALLS sets, always the same ones, and gives them to one side, or to none, so that
-//! its instructions can be counted. `tests` is the port with a call that it refuses after all of its tests.
+//! its instructions can be counted. `tests` is the port with a call that it refuses after all of its tests. The pointers are those of BAP.
 
-use compare_alloc::{by_judge, by_port, draw, BINS};
+use compare_alloc::{by_judge, by_port, draw, BINS, TABLES};
 use judge::rng::Rng;
 use std::hint::black_box;
 
@@ -16,11 +16,11 @@ fn main() {
         let mut out = [0; BINS];
         match args[2].as_str() {
             "none" => {}
-            "rust" => drop(black_box(by_judge(&set))),
-            "port" => assert!(by_port(&set, &mut out)),
+            "rust" => drop(black_box(by_judge(&set, TABLES[0].1))),
+            "port" => assert!(by_port(&set, &mut out, 0)),
             "tests" => {
                 set.exponents[BINS - 1] = 25;
-                assert!(!by_port(&set, &mut out));
+                assert!(!by_port(&set, &mut out, 0));
             }
             other => panic!("no side {other}"),
         }

@@ -34,16 +34,17 @@ pub record Codes (fscod csnroffst fsnroffst count : ℕ) : Type 0 where
   pub fine : fsnroffst ≤ 15
   pub segments : count ≤ 8
 
-codes : (fscod csnroffst fsnroffst count : ℕ) → codesFit fscod csnroffst fsnroffst count ≡ true → Codes fscod csnroffst fsnroffst count
-codes fscod csnroffst fsnroffst count e =
-    let first = both-is (leb fscod 2) (leb csnroffst 63 && (leb fsnroffst 15 && leb count 8)) e in
-    let second = both-is (leb csnroffst 63) (leb fsnroffst 15 && leb count 8) (first .1) in
-    let third = both-is (leb fsnroffst 15) (leb count 8) (second .1) in
+codes : (fscod csnroffst fsnroffst count which : ℕ) → codesFit fscod csnroffst fsnroffst count which ≡ true → Codes fscod csnroffst fsnroffst count
+codes fscod csnroffst fsnroffst count which e =
+    let first = both-is (leb fscod 2) (leb csnroffst 63 && (leb fsnroffst 15 && (leb count 8 && leb which 1))) e in
+    let second = both-is (leb csnroffst 63) (leb fsnroffst 15 && (leb count 8 && leb which 1)) (first .1) in
+    let third = both-is (leb fsnroffst 15) (leb count 8 && leb which 1) (second .1) in
+    let fourth = both-is (leb count 8) (leb which 1) (third .1) in
     record {
       rate = leb-true fscod 2 (first .0);
       coarse = leb-true csnroffst 63 (second .0);
       fine = leb-true fsnroffst 15 (third .0);
-      segments = leb-true count 8 (third .1);
+      segments = leb-true count 8 (fourth .0);
     }
 
 fitting : (exponents : List ℤ) → exponentsFit exponents ≡ true → Exponents exponents
@@ -57,11 +58,11 @@ fitting (z ∷ zs) e (suc bin) = fitting zs (both-is (isExponent z) (exponentsFi
 range : (c : tie.Else1) → let s = c .before .before in rangeFits (s .args .start) (s .args .end) ≡ true
 range c = sym (c .before .range-fits .ensures) ∙ not-false _ (c .if1 .left)
 
-numbers : (c : tie.Else2) → let s = c .before .before .before .before in codesFit (s .args .fscod) (s .args .csnroffst) (s .args .fsnroffst) (s .args .count) ≡ true
+numbers : (c : tie.Else2) → let s = c .before .before .before .before in codesFit (s .args .fscod) (s .args .csnroffst) (s .args .fsnroffst) (s .args .count) (s .args .which) ≡ true
 numbers c = sym (c .before .codes-fit .ensures) ∙ not-false _ (c .if2 .left)
 
 told : (c : tie.Else2) → let s = c .before .before .before .before in Codes (s .args .fscod) (s .args .csnroffst) (s .args .fsnroffst) (s .args .count)
-told c = let s = c .before .before .before .before in codes (s .args .fscod) (s .args .csnroffst) (s .args .fsnroffst) (s .args .count) (numbers c)
+told c = let s = c .before .before .before .before in codes (s .args .fscod) (s .args .csnroffst) (s .args .fsnroffst) (s .args .count) (s .args .which) (numbers c)
 
 all-fit : (c : tie.Else3) → exponentsFit (c .before .before .before .before .before .before .before .args .exponents .now) ≡ true
 all-fit c = sym (c .before .exponents-fit .ensures) ∙ not-false _ (c .if3 .left)
@@ -92,8 +93,10 @@ ferrysprig-allocate-spec =
     (λ c κs.
     let small = told (c .before .before .before .before .before .before .before .before .before) in (omega (arith, small .coarse), omega (arith, small .fine)))
     (λ c κs. search needs)
+    (λ c κs. search needs)
     (λ c κs.
-    let snr = c .before in
+    let floor = c .before .before in
+    let snr = floor .before in
     let e3 = snr .before .before .before .before .before .before .before in
     let e2 = e3 .before .before .before in
     let e1 = e2 .before .before in
@@ -106,12 +109,13 @@ ferrysprig-allocate-spec =
         fastleak = below-cast (below-more (below-u16 (s .args .fastleak) (omega arith)) tt);
         slowleak = below-cast (below-more (below-u16 (s .args .slowleak) (omega arith)) tt);
         snroffset = below-read (below-is (snr .snr-offset .ensures) (snr-below (s .args .csnroffst) (s .args .fsnroffst) (omega (arith, small .coarse)) (omega (arith, small .fine))));
-        floor = below-read (c .floor .ensures .1);
+        floor = below-read (floor .floor .ensures .1);
       },
       fitting (s .args .exponents .now) (all-fit e3),
     ))
     (λ c.
-    let floor = c .before in
+    let table = c .before .before in
+    let floor = table .before in
     let snr = floor .before in
     let knee = snr .before in
     let gain = knee .before .before in
@@ -131,5 +135,6 @@ ferrysprig-allocate-spec =
         sym (back-32 _ (floor .floor .ok) ∙ floor .floor .ensures .0),
         sym (cast-32 (s .args .fastleak) (omega arith)),
         sym (cast-32 (s .args .slowleak) (omega arith)),
+        sym (table .table-of .ensures),
       ) (c .allocate .ensures),
     )))

@@ -1,6 +1,5 @@
 -- `alloc::pointers::pointers` meets its contract. The loop's invariant is the definition's, up to `bin`. Assumes nothing.
-use mathlib.Core.List.{List}
-use mathlib.Core.Path.{_≡_, ap₂}
+use mathlib.Core.Path.{_≡_, ap}
 use Prim.Native.Nat.{ℕ, _-_, _≤_}
 use native.Mathlib.Omega.{arith}
 use borrow.Author.Needs.{needs}
@@ -19,7 +18,7 @@ use Rattle.alloc.proofs.pointers.pointers.Statement.{statement}
 use Rattle.alloc.proofs.pointers.pointers.Tie as tie
 
 abbrev Inv-loop : tie.InvT-loop
-Inv-loop out₀ baps addresses start end bin₀ out bin = (start ≤ bin) × (bin ≤ end) × Fills 0 start bin (bapAt addresses) out₀ out
+Inv-loop out₀ baps addresses start end bin₀ out bin = (start ≤ bin) × (bin ≤ end) × Fills 0 start bin (bapAt baps addresses) out₀ out
 
 abbrev μ-loop : tie.MeasureT-loop
 μ-loop out₀ baps addresses start end bin₀ out bin = end - bin
@@ -36,13 +35,13 @@ module _ (c : tie.After-out Inv-loop μ-loop) where
   address-is = back-32 _ (c .out .given)
 
   address : Address (at (begin .args .addresses .now) bin)
-  address = begin .pre .4 bin (omega arith) (omega arith)
+  address = begin .pre .3 bin (omega arith) (omega arith)
 
   small : natAbs (at (begin .args .addresses .now) bin) ≤ 63
   small = natural _ (address .0) (address .1) .1
 
-  pointer-is : getD (begin .args .baps .now) (natAbs (toZ w32 (ofZ w32 (getD (begin .args .addresses .now) bin (pos 0))))) 0 ≡ bapAt (begin .args .addresses .now) bin
-  pointer-is = ap₂ (λ (l : List ℕ) (z : ℤ). getD l (natAbs z) 0) (begin .pre .1) address-is
+  pointer-is : getD (begin .args .baps .now) (natAbs (toZ w32 (ofZ w32 (getD (begin .args .addresses .now) bin (pos 0))))) 0 ≡ bapAt (begin .args .baps .now) (begin .args .addresses .now) bin
+  pointer-is = ap (λ (z : ℤ). getD (begin .args .baps .now) (natAbs z) 0) address-is
 
 pub pointers-spec : {M : Type 1} → statement M
 pointers-spec =

@@ -3,6 +3,7 @@ use mathlib.Core.List.{[]}
 use native.Mathlib.Omega.{arith}
 use lib.ListN.{getD}
 use borrow.Author.Needs.{needs}
+use Rattle.tables.specs.Tables.{bap}
 use Rattle.alloc.proofs.Laws.{pointers-back, pointers-below}
 use Rattle.mantissas.specs.Mantissas.{pointers}
 use Rattle.mantissas.proofs.pointers.slot_pointers.Statement.{statement}
@@ -25,4 +26,4 @@ slot-pointers-spec =
     let is = c .before .parameters-of .ensures .0 in
     let out = s .args .out .now in
     let row = getD (s .args .exps .now) (s .args .p .slot) [] in
-    rw (c .pointers-of .ensures, is) (pointers-back out row _ (omega (arith, s .pre .0, s .pre .4 .end)), pointers-below out row _ (s .pre .1))))  -- returns
+    rw (c .pointers-of .ensures, is) (pointers-back out bap row _ (omega (arith, s .pre .0, s .pre .4 .end)), pointers-below out row _ (s .pre .1))))  -- returns

@@ -1,0 +1,4 @@
+pub mod Walk
+pub mod Aht
+pub mod Promises
+pub mod EqualBits

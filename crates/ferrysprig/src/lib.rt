@@ -1,5 +1,6 @@
 // The functions that Rust and C call. An exported function can take no enum and nothing that leads to one, so answers go as numbers.
 use ac3::Answer;
+use profile::numbers_of;
 use syntax::rows::shown;
 ghost use mathlib.Core.Path.{_≡_};
 ghost use Prim.Native.Nat.{_≤_};
@@ -11,8 +12,10 @@ ghost use Rattle.ac3.specs.RowBound.{mostRows};
 ghost use Rattle.ac3.specs.Marked.{among};
 ghost use Rattle.burst.specs.Answers as bursts;
 ghost use Rattle.edits.specs.Edits as edits;
+ghost use Rattle.profile.specs.Answers.{numbersOf, profileTo};
 ghost use Rattle.ferrysprig.specs.Bursts.{burstInOrder, burstNumbers, burstTold};
 ghost use Rattle.ferrysprig.specs.Numbers.{flag, inOrder, answerNumbers, told};
+ghost use Rattle.ferrysprig.specs.Profiles.{profileInOrder, profileNumbers, profileTold};
 ghost use Rattle.ferrysprig.specs.Promise.{PromisedNumbers};
 
 // The numbers of an answer, and of one about a burst. The block of what did not fit stands after those that are never negative.
@@ -21,6 +24,8 @@ pub const ANSWER: usize = BLOCK + 1;
 const BLOCK: usize = 25;
 
 pub const BURST_ANSWER: usize = 3;
+
+pub const PROFILE_ANSWER: usize = 4;
 
 fn flag(b: bool) -> u16
     ensures { λ r. ⌜ r ≡ flag b ⌝ }
@@ -166,4 +171,42 @@ pub extern "C" fn ferrysprig_set(
     ensures { λ r. ⌜ (r, now (capture .exit)) ≡ edits.set (now (capture .entry)) place position width value ⌝ }
 {
     edits::set(capture, place, position, width, value)
+}
+
+// The numbers of an answer about the profile in their order.
+fn profile_in_order(a: profile::Answer) -> [u16; PROFILE_ANSWER]
+    requires { ⌜ (a .rows ≤ mostRows) × (numbersOf (a .verdict) .row ≤ mostRows) ⌝ }
+    ensures { λ r. ⌜ r ≡ profileInOrder a ⌝ }
+{
+    let verdict = a.verdict;
+    let told = numbers_of(verdict);
+    [
+        told.refusal as u16,
+        a.rows as u16,
+        told.rule as u16,
+        told.row as u16,
+    ]
+}
+
+fn profile_numbers(a: profile::Answer) -> [i32; PROFILE_ANSWER]
+    requires { ⌜ (a .rows ≤ mostRows) × (numbersOf (a .verdict) .row ≤ mostRows) ⌝ }
+    ensures { λ r. ⌜ r ≡ profileNumbers a ⌝ }
+{
+    let small = profile_in_order(a);
+    let mut out = [0i32; PROFILE_ANSWER];
+    writer::numbers(&small, &mut out);
+    out
+}
+
+// Holds the frame at a place of a capture against the contribution profile, and writes the answer's numbers.
+#[no_mangle]
+pub extern "C" fn ferrysprig_profile(
+    capture: &[u8],
+    place: usize,
+    rows: &mut [i32],
+    answer: &mut [i32; PROFILE_ANSWER],
+)
+    ensures { λ _. ⌜ (now (answer .exit), now (rows .exit)) ≡ profileTold (profileTo (now (capture .entry)) place (now (rows .entry))) ⌝ }
+{
+    *answer = profile_numbers(profile::profile(capture, place, rows));
 }

@@ -7,6 +7,7 @@ use lib.IntN.{ℤ}
 use Rattle.ac3.specs.Promise.{Call, call, listed, answerTo}
 use Rattle.profile.specs.Rules.{judged}
 use Rattle.profile.specs.declared.Answer.{Answer}
+use Rattle.profile.specs.declared.Numbers.{Numbers}
 use Rattle.profile.specs.declared.Verdict.{Verdict}
 use Rattle.profile.specs.declared.Verdict.the-variants.{Refused, Within, Broken}
 
@@ -19,19 +20,9 @@ profileTo capture place rows =
     let c = call capture place rows in
     (record { rows = answerTo c .0 .rows; verdict = verdictOf c }, answerTo c .1)
 
--- ---- as numbers: the refusal, the rule, the row
+-- ---- the numbers of each case
 
-abbrev pub refusalOf : Verdict → ℕ
-refusalOf (Refused n) = n
-refusalOf Within = 0
-refusalOf (Broken rule row) = 0
-
-abbrev pub ruleOf : Verdict → ℕ
-ruleOf (Refused n) = 0
-ruleOf Within = 0
-ruleOf (Broken rule row) = rule
-
-abbrev pub rowOf : Verdict → ℕ
-rowOf (Refused n) = 0
-rowOf Within = 0
-rowOf (Broken rule row) = row
+abbrev pub numbersOf : Verdict → Numbers
+numbersOf (Refused refusal) = record { refusal = refusal; rule = 0; row = 0 }
+numbersOf Within = record { refusal = 0; rule = 0; row = 0 }
+numbersOf (Broken rule row) = record { refusal = 0; rule = rule; row = row }

@@ -16,7 +16,7 @@ ghost use lib.ListN.{length, drop};
 ghost use Rattle.syntax.specs.Numbers.{rowWidth};
 ghost use Rattle.rows.specs.Look.{firstWhere};
 ghost use Rattle.profile.specs.Rules.{rule, natural, brokenIn, judgedIn};
-ghost use Rattle.profile.specs.Answers.{profileTo};
+ghost use Rattle.profile.specs.Answers.{numbersOf, profileTo};
 
 // Which number of a row is its value.
 const VALUE: usize = 7;
@@ -35,6 +35,23 @@ pub enum Verdict {
 pub struct Answer {
     pub rows: usize,
     pub verdict: Verdict,
+}
+
+// A verdict as numbers: 0 for what it does not have. (Public for the exported function, which can tell numbers only.)
+pub struct Numbers {
+    pub refusal: u8,
+    pub rule: u8,
+    pub row: usize,
+}
+
+pub fn numbers_of(verdict: Verdict) -> Numbers
+    ensures { λ r. ⌜ r ≡ numbersOf verdict ⌝ }
+{
+    match verdict {
+        Verdict::Refused(refusal) => Numbers { refusal, rule: 0, row: 0 },
+        Verdict::Within => Numbers { refusal: 0, rule: 0, row: 0 },
+        Verdict::Broken(rule, row) => Numbers { refusal: 0, rule, row },
+    }
 }
 
 // The field that a rule speaks of.

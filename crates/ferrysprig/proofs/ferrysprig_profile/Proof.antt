@@ -13,7 +13,7 @@ use Rattle.ferrysprig.proofs.ferrysprig_profile.Tie as tie
 
 few : tie.Need-profile-numbers-requires
 few c κs =
-    let call = c .before .before .before in
+    let call = c .before in
     let a = call .before .before .before .args in (
       omega (arith, ap (λ (x : Answer × List ℤ). x .0 .rows) (call .profile .ensures), few-rows (a .capture .now) (a .place) (a .rows .now)),
       omega (arith, ap (λ (x : Answer × List ℤ). numbersOf (x .0 .verdict) .row) (call .profile .ensures), row-few (a .capture .now) (a .place) (a .rows .now)),
@@ -26,4 +26,4 @@ ferrysprig-profile-spec =
     (λ c κs. search needs)  -- profile-requires
     few  -- profile-numbers-requires
     (λ c. search needs)  -- same-length
-    (λ c. rw (c .profile-numbers .ensures) (ap profileTold (c .before .before .before .before .profile .ensures))))  -- returns
+    (λ c. rw (c .profile-numbers .ensures) (ap profileTold (c .before .before .profile .ensures))))  -- returns

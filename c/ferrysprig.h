@@ -3,7 +3,8 @@
    proved.
 
    The functions have no state: no heap, no globals, no files, no signals. Any number of threads may call them at once, each with its own
-   `rows`, `list`, `out` and `answer` (and `capture`, where it is written to). The archive needs memcpy, memmove and memset, and nothing else.
+   `rows`, `list`, `out` and `answer` (and `capture`, where it is written to). The archive needs memcpy, memmove and memset, and nothing
+   else.
 
    An edit breaks the checksums: but for the sync word, crc1 guards the first five eighths of a frame and crc2 all of it. Whoever changes a
    field makes crc2 wrong, and crc1 too where the field stands that early, and a decoder may then drop the frame. The functions neither
@@ -23,9 +24,9 @@ extern "C" {
 #define FERRYSPRIG_VERSION "0.1.0"
 #define FERRYSPRIG_VERSION_NUMBER 100 /* 10,000 times the first part, 100 times the second, and the third */
 
-/* Bytes of stack that are enough for a call. (c/test.c measures it: a call takes some 11,700, and where the program finds memcpy and the
-   others at their first use, the loader takes some 2,400 more.) */
-#define FERRYSPRIG_STACK_BYTES 16384
+/* Bytes of stack that are enough for a call. (c/test.c measures it: ferrysprig_blocks takes some 13,700, any other call some 12,000, and
+   where the program finds memcpy and the others at their first use, the loader takes some 1,800 to 2,400 more, by processor.) */
+#define FERRYSPRIG_STACK_BYTES 20480
 
 /* Bytes that no frame exceeds, and those that every frame has. */
 #define FERRYSPRIG_MOST_BYTES 3840
@@ -316,10 +317,10 @@ enum {
    give 36. With room for FERRYSPRIG_MOST_ROWS rows 37 is not given; nor is 36 with FERRYSPRIG_MOST_ENTRIES(capture_len) entries, nor 35
    with as many bytes as the capture has. After 35 or 36 the walk can go on with the part of the capture from the end of the last entry.
 
-   `rows_len`, `list_len` and `out_len` count numbers, numbers and bytes. Numbers of the list past the entries, and bytes of `out` past those
-   written, are not touched, on refusals too. `rows` is left as the parses of all places, in order, leave it. Any input is answered; `rows`,
-   `list`, `out` and `answer` overlap nothing, so a capture cannot be salvaged in place. A frame that is accepted need not be sound: what
-   parsing does not look at (mantissas, checksums, the frame's tail) may be damaged. */
+   `rows_len`, `list_len` and `out_len` count numbers, numbers and bytes. Numbers of the list past the entries, and bytes of `out` past
+   those written, are not touched, on refusals too. `rows` is left as the parses of all places, in order, leave it. Any input is answered;
+   `rows`, `list`, `out` and `answer` overlap nothing, so a capture cannot be salvaged in place. A frame that is accepted need not be sound:
+   what parsing does not look at (mantissas, checksums, the frame's tail) may be damaged. */
 void ferrysprig_salvage(const uint8_t *capture, size_t capture_len, int32_t *rows, size_t rows_len, size_t *list, size_t list_len,
                         uint8_t *out, size_t out_len, size_t answer[FERRYSPRIG_SALVAGE_ANSWER_NUMBERS]);
 

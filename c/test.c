@@ -175,7 +175,8 @@ static bool not_taken(const uint8_t *frame, size_t place, size_t room_len, const
 }
 
 static void try_apart(void) {
-    static uint8_t frame[128] = {0x0B, 0x77, 0x00, 0x00, 0x00, 0x40, 0x20, 0x00, 0x0B, 0x00, 0x1F, 0x3E, 0x7C, 0xF9, 0xF3, 0xE2, 0x00, 0x20};
+    static const uint8_t frame[128] = {0x0B, 0x77, 0x00, 0x00, 0x00, 0x40, 0x20, 0x00, 0x0B, 0x00, 0x1F, 0x3E, 0x7C, 0xF9, 0xF3, 0xE2, 0x00,
+        0x20};
     const int32_t whole[] = {0, 17, 65, 0, -1, 128, 8, 1, 0, 0};
     const int32_t of_example[] = {3, 4, 40, 0, -1, 0, 0, 0, 0, 0};
     const int32_t full[] = {7, 5, 45, 0, -1, 0, 0, 0, 0, 0};
@@ -324,14 +325,16 @@ static void try_bursts(void) {
     holds("a burst of another data type", burst_refused(31, 0));
 }
 
-/* What a salvage is lent: two numbers more than four entries have, and a byte more than two of the frames; and one of each that is not lent. */
+/* What a salvage is lent at most: two numbers more than four entries have, and a byte more than two of the frames. (One number more of the
+   list, and more bytes of `out`, are not lent.) */
 enum { LIST = 4 * FERRYSPRIG_ENTRY_NUMBERS + 2, FRAMES = 2 * FERRYSPRIG_LEAST_BYTES + 1 };
 static size_t list[LIST + 1];
 static size_t salvage_answer[FERRYSPRIG_SALVAGE_ANSWER_NUMBERS + 1];
 
 /* Salvages the first bytes of a frame, a gap of three bytes, and the frame again, in these rooms. */
 static void salvage(size_t length, size_t numbers, size_t listed, size_t bytes) {
-    static const uint8_t front[] = {0x0B, 0x77, 0x00, 0x00, 0x00, 0x40, 0x20, 0x00, 0x0B, 0x00, 0x1F, 0x3E, 0x7C, 0xF9, 0xF3, 0xE2, 0x00, 0x20};
+    static const uint8_t front[] = {0x0B, 0x77, 0x00, 0x00, 0x00, 0x40, 0x20, 0x00, 0x0B, 0x00, 0x1F, 0x3E, 0x7C, 0xF9, 0xF3, 0xE2, 0x00,
+        0x20};
     static uint8_t capture[2 * FERRYSPRIG_LEAST_BYTES + 3];
     memcpy(capture, front, sizeof front);
     memcpy(&capture[FERRYSPRIG_LEAST_BYTES + 3], front, sizeof front);
@@ -416,9 +419,10 @@ static uint8_t stream[65536];
 static size_t stream_len;
 static ucontext_t here, there;
 
-/* What is called: the parse of each frame of a stream; its header and then its blocks; each frame written as a burst and read; the stream
-   salvaged. And its bytes are walked over as if they were AHT sections. */
-static enum { PARSES, APART, BURSTS, SALVAGE, WAYS } way;
+/* What is called: the header of each frame of a stream and then its blocks; the parse of each; each frame written as a burst and read; the
+   stream salvaged. (The deepest comes first: what binding takes is taken once.) And its bytes are walked over as if they were AHT
+   sections. */
+static enum { APART, PARSES, BURSTS, SALVAGE, WAYS } way;
 
 static void call(void) {
     static const uint8_t hebap[] = {8, 9, 1, 10, 11, 0, 12, 13, 7, 14, 15, 16, 17, 18, 19};
@@ -431,7 +435,8 @@ static void call(void) {
     if (way == SALVAGE) {
         static uint8_t frames[sizeof stream];
         static size_t entries[FERRYSPRIG_ENTRY_NUMBERS * FERRYSPRIG_MOST_ENTRIES(sizeof stream)];
-        ferrysprig_salvage(stream, stream_len, room, numbers, entries, sizeof entries / sizeof *entries, frames, sizeof frames, salvage_answer);
+        ferrysprig_salvage(stream, stream_len, room, numbers, entries, sizeof entries / sizeof *entries, frames, sizeof frames,
+                           salvage_answer);
         return;
     }
     do {
@@ -474,7 +479,7 @@ static void try_stack(int files, char **names) {
         all_read = all_read && stream_len > 0;
         if (in)
             fclose(in);
-        for (way = PARSES; way < WAYS; way++) {
+        for (way = APART; way < WAYS; way++) {
             size_t used = stack_used();
             most = used > most ? used : most;
         }

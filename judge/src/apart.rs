@@ -1,9 +1,9 @@
 //! Header and blocks apart, from the words of their description and not from the port: the published parser cut in two after addbsi.
 //!
-//! `header` answers ten numbers: refusal (0: none), rows, the first bit not yet read, name and block of what did not fit, frame bytes, bsid,
-//! acmod, lfeon, fscod; the last five are 0 on a refusal. `blocks` is given ten such numbers and trusts none of them: it makes an answer of
-//! its own from the same capture, place and room. Any difference, or a refusal, is 24, and no number of the room is touched. Else the
-//! header's rows are written afresh and the blocks follow.
+//! `header` answers ten numbers: refusal (0: none), rows, the first bit not yet read, name and block of what did not fit, frame bytes,
+//! bsid, acmod, lfeon, fscod; the last five are 0 on a refusal. `blocks` is given ten such numbers and trusts none of them: it makes an
+//! answer of its own from the same capture, place and room. Any difference, or a refusal, is 24, and no number of the room is touched. Else
+//! the header's rows are written afresh and the blocks follow.
 
 use crate::cut::{ac3, no, Answer, Bytes, Cursor, Unfit};
 use crate::layout::{header_at, HeaderAnswer, ANSWER, HEADER_ANSWER};

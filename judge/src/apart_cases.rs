@@ -565,8 +565,8 @@ impl<'s> Apart<'s> {
         }
     }
 
-    /// All that is done with an input to which the most is done: answers of every sort; then, in room for the header and some rows more, each
-    /// number changed in each way, and each two together.
+    /// All that is done with an input to which the most is done: answers of every sort; then, in room for the header and some rows more,
+    /// each number changed in each way, and each two together.
     fn thoroughly(&mut self, capture: &[u8], place: usize) {
         let left_over = self.rng.below(ROW);
         let call = self

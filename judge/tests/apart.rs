@@ -1,5 +1,5 @@
-//! Header and blocks apart: cases by name, each with the answer that the description gives, written out; how long a header can be; and slips
-//! that the generator's calls must notice.
+//! Header and blocks apart: cases by name, each with the answer that the description gives, written out; how long a header can be; and
+//! slips that the generator's calls must notice.
 
 use judge::agree::{fresh_room, untouched};
 use judge::apart::{blocks, header, LONGEST, MOST_ROWS};

@@ -1,6 +1,6 @@
-//! headers FILE: walks the frames of an .ac3 file by their headers alone, and prints what each says: the frame's length, and bsi, element by
-//! element. No block is looked at. The exit status is 0 if every byte of the file belonged to a frame, 1 if not, 2 if it was called wrongly,
-//! could not read or could not print.
+//! headers FILE: walks the frames of an .ac3 file by their headers alone, and prints what each says: the frame's length, and bsi, element
+//! by element. No block is looked at. The exit status is 0 if every byte of the file belonged to a frame, 1 if not, 2 if it was called
+//! wrongly, could not read or could not print.
 
 use ferrysprig::{Field, Parser};
 use std::io::{self, Write};

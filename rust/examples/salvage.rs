@@ -1,5 +1,6 @@
 //! salvage IN OUT: goes through a damaged .ac3 file, writes what is left of its frames to a new file, one after the other, and prints where
-//! frames and gaps are. The exit status is 0 if there was no gap, 1 if there was, 2 if it was called wrongly, could not read, write or print.
+//! frames and gaps are. The exit status is 0 if there was no gap, 1 if there was, 2 if it was called wrongly, could not read, could not
+//! write or could not print.
 
 use ferrysprig::salvage::{salvage_file, Trouble};
 use std::io::{self, Write};

@@ -137,8 +137,8 @@ impl<'a> FrameRef<'a> {
 #[derive(Clone, Debug, PartialEq, Eq)]
 #[non_exhaustive]
 pub struct Refusal {
-    /// 1 to 23; of a header alone 1 to 5 or 7. [`blocks_into`](crate::blocks_into) gives 24, with nothing read, where the header that it is
-    /// given is another.
+    /// 1 to 23; of a header alone 1 to 5 or 7. [`blocks_into`](crate::blocks_into) gives 24, with nothing read, where it is told of another
+    /// header.
     pub number: u8,
     /// What was read before, end to end from bit 0. The last one has the bad value at refusals 2, 5, 8, 11, 16 to 19 and 21 to 23. At 3 it
     /// is one of the last two, fscod and frmsizecod; at 9 both of them together, cplbegf and cplendf. At 10, 12 to 15 and 20 the last one is

@@ -153,7 +153,8 @@ impl<'s> Salvages<'s> {
         sizes
     }
 
-    /// Rooms of which one, two or all three run out at one place, or at the gap before it: at any frame, and where the most rows are needed.
+    /// Rooms of which one, two or all three run out at one place, or at the gap before it: at any frame, and where the most rows are
+    /// needed.
     fn at_one_place(&mut self, walk: &Walk<'_>) {
         let frame = (!walk.frames.is_empty()).then(|| self.rng.pick(&walk.frames));
         let most = walk.visits.iter().max_by_key(|visit| visit.count());

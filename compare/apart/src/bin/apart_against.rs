@@ -55,7 +55,7 @@ fn ended_at(header: &HeaderAnswer) -> Answer {
     answer
 }
 
-/// The port's whole parse is its `blocks` of its `header`, which was `told` and left that room; where that is a refusal, the parse ends there.
+/// The port's whole parse is its `blocks` of its `header`, which was `told` and left that room; where that is refused, the parse ends there.
 fn both_in_turn(case: &Case<'_>, told: &HeaderAnswer, left: &[i32], differences: &mut Differences) {
     let (mut whole, mut parts) = (fresh_room(left.len()), fresh_room(left.len()));
     let (parsed, _) = raw::parse(case.capture, case.place, &mut whole);

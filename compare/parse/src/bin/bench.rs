@@ -1,7 +1,7 @@
 //! bench FILE PASSES [WAY]: parses every frame of FILE, PASSES times, in every way or in one (for callgrind), and prints the best pass of
 //! each. The ways: `port`, the archive alone; `header`, the archive's header alone; `apart`, its header and then its blocks; `parser`, the
-//! Rust crate's `Parser` and the gain words by their role; `fields`, the same and every field; `bsi`, `Parser` and every field of the header
-//! alone; `parse`, the crate's `parse`, which makes a list; `rust`, the original.
+//! Rust crate's `Parser` and the gain words by their role; `fields`, the same and every field; `bsi`, `Parser` and every field of the
+//! header alone; `parse`, the crate's `parse`, which makes a list; `rust`, the original.
 
 use compare_parse::layout::{answer_at, header_answer_at, MOST_ROWS, ROW_NUMBERS};
 use compare_parse::raw;

@@ -1,5 +1,5 @@
-//! salvage_bench CAPTURE BYTES PASSES [WAY]: salvages a capture of some BYTES, PASSES times, in every way or in one, so that its instructions
-//! can be counted, and prints the best pass of each. Says where two ways do not find the same frames.
+//! salvage_bench CAPTURE BYTES PASSES [WAY]: salvages a capture of some BYTES, PASSES times, in every way or in one (so that its
+//! instructions can be counted), and prints the best pass of each. Says whether the ways find the same frames and gaps.
 //!
 //! The ways: `port`, the archive; `rust`, the same walk over the original parser; `sync`, that walk where it looks for the sync word before
 //! it parses. Captures are those of `CAPTURES`.

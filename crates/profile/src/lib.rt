@@ -48,9 +48,21 @@ pub fn numbers_of(verdict: Verdict) -> Numbers
     ensures { λ r. ⌜ r ≡ numbersOf verdict ⌝ }
 {
     match verdict {
-        Verdict::Refused(refusal) => Numbers { refusal, rule: 0, row: 0 },
-        Verdict::Within => Numbers { refusal: 0, rule: 0, row: 0 },
-        Verdict::Broken(rule, row) => Numbers { refusal: 0, rule, row },
+        Verdict::Refused(refusal) => Numbers {
+            refusal,
+            rule: 0,
+            row: 0,
+        },
+        Verdict::Within => Numbers {
+            refusal: 0,
+            rule: 0,
+            row: 0,
+        },
+        Verdict::Broken(rule, row) => Numbers {
+            refusal: 0,
+            rule,
+            row,
+        },
     }
 }
 

@@ -9,12 +9,6 @@ use Rattle.ferrysprig.specs.Profiles.{profileInOrder}
 use Rattle.ferrysprig.proofs.profile_in_order.Statement.{statement}
 use Rattle.ferrysprig.proofs.profile_in_order.Tie as tie
 
--- the row is one of the frame's
-cast-row : tie.Need-cast-row
-cast-row c =
-    let told = c .before .before .before .before in
-    omega (arith, ap (λ (n : Numbers). n .row) (told .numbers-of .ensures), told .before .pre .1)
-
 entries : tie.Need-returns
 unfolding profileInOrder
 entries c =
@@ -29,5 +23,7 @@ profile-in-order-spec =
     (λ c. search needs)  -- cast-refusal
     (λ c. search needs)  -- cast-rows
     (λ c. search needs)  -- cast-rule
-    cast-row
+    -- the row is one of the frame's
+    (λ c.
+    let told = c .before .before .before .before in omega (arith, ap (λ (n : Numbers). n .row) (told .numbers-of .ensures), told .before .pre .1))
     entries)

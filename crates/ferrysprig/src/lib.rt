@@ -259,15 +259,15 @@ pub extern "C" fn ferrysprig_aht(
 }
 
 // The numbers of an answer about the profile in their order.
-fn profile_in_order(a: profile::Answer) -> [u16; PROFILE_ANSWER]
-    requires { ⌜ (a .rows ≤ mostRows) × (numbersOf (a .verdict) .row ≤ mostRows) ⌝ }
-    ensures { λ r. ⌜ r ≡ profileInOrder a ⌝ }
+fn profile_in_order(judged: profile::Answer) -> [u16; PROFILE_ANSWER]
+    requires { ⌜ (judged .rows ≤ mostRows) × (numbersOf (judged .verdict) .row ≤ mostRows) ⌝ }
+    ensures { λ r. ⌜ r ≡ profileInOrder judged ⌝ }
 {
-    let verdict = a.verdict;
+    let verdict = judged.verdict;
     let told = numbers_of(verdict);
     [
         told.refusal as u16,
-        a.rows as u16,
+        judged.rows as u16,
         told.rule as u16,
         told.row as u16,
     ]

@@ -13,7 +13,7 @@ entries : tie.Need-returns
 unfolding profileInOrder
 entries c =
     let told = c .before .before .before .before in
-    ap (λ (n : Numbers). n .refusal ∷ told .before .args .a .rows ∷ n .rule ∷ n .row ∷ []) (told .numbers-of .ensures)
+    ap (λ (n : Numbers). n .refusal ∷ told .before .args .judged .rows ∷ n .rule ∷ n .row ∷ []) (told .numbers-of .ensures)
 
 pub profile-in-order-spec : {M : Type 1} → statement M
 profile-in-order-spec =

@@ -488,8 +488,8 @@ static uint8_t stream[65536];
 static size_t stream_len;
 static ucontext_t here, there;
 
-/* What is called: the profile and the parse of each frame of a stream; its header and then its blocks; each frame written as a burst and read; the stream
-   salvaged. And its bytes are walked over as if they were AHT sections. */
+/* What is called: the profile and the parse of each frame of a stream; its header and then its blocks; each frame written as a burst and
+   read; the stream salvaged. And its bytes are walked over as if they were AHT sections. */
 static enum { PARSES, APART, BURSTS, SALVAGE, WAYS } way;
 
 static void call(void) {

@@ -11,7 +11,7 @@
 //! assert_eq!(check(&frame, 0)?, Profile::Within);
 //!
 //! let dialnorm = 9; // the tenth field
-//! let field = ferrysprig::parse(&frame).unwrap().fields[dialnorm];
+//! let field = ferrysprig::parse(&frame).unwrap().fields[dialnorm].clone();
 //! ferrysprig::edit::set(&mut frame, 0, field.pos, field.width, 0).unwrap();
 //! let profile = check(&frame, 0)?;
 //! assert_eq!(profile, Profile::Broken { rule: Rule::Dialnorm, row: dialnorm });

@@ -12,7 +12,7 @@
 //!
 //! let dialnorm = 9; // the tenth field
 //! let field = ferrysprig::parse(&frame).unwrap().fields[dialnorm].clone();
-//! ferrysprig::edit::set(&mut frame, 0, field.pos, field.width, 0).unwrap();
+//! ferrysprig::edit::set(&mut frame, 0, &field, 0).unwrap();
 //! let profile = check(&frame, 0)?;
 //! assert_eq!(profile, Profile::Broken { rule: Rule::Dialnorm, row: dialnorm });
 //! assert_eq!(profile.to_string(), "rule 7 is broken by row 9: dialnorm is 0");

@@ -32,10 +32,10 @@ fn expected(frame: &Frame) -> Profile {
 }
 
 /// The frame with another value in its field of a name.
-fn edited(frame: &[u8], name: &str, value: usize) -> Vec<u8> {
+fn edited(frame: &[u8], name: &str, value: u32) -> Vec<u8> {
     let mut edited = frame.to_vec();
     let field = parse(frame).unwrap().named(name).unwrap().clone();
-    edit::set(&mut edited, 0, field.pos, field.width, value).unwrap();
+    edit::set(&mut edited, 0, &field, value).unwrap();
     edited
 }
 

@@ -131,9 +131,9 @@ fn by_bits(frame: &[u8], rows: &[i32]) -> (i32, i32) {
     let get = |at, width| bits::get(frame, at, width);
     let acmod = get(48, 3);
     let lfeon = 51 + [0, 0, 2, 2, 2, 4, 2, 4][acmod as usize];
-    let delta = rows.chunks(ROW).find(|r| {
-        r[row_at::NAME] == number("deltbaie") && get(r[row_at::POS] as usize, 1) == 1
-    });
+    let delta = rows
+        .chunks(ROW)
+        .find(|r| r[row_at::NAME] == number("deltbaie") && get(r[row_at::POS] as usize, 1) == 1);
     let checks = [
         (get(32, 2) > 0, 32),
         (![2, 7].contains(&acmod), 48),
@@ -292,8 +292,16 @@ impl<'s> Profiles<'s> {
             bsid: rng.pick(if breaks(BSID) { &other_bsid } else { &[6, 8] }),
             acmod,
             lfeon: (breaks(LFEON) || acmod == 7 && rng.chance(50)).into(),
-            dialnorm: if breaks(DIALNORM) { 0 } else { 1 + rng.below(31) as u32 },
-            deltas: if breaks(DELTBAIE) { 1 + rng.below(63) as u32 } else { 0 },
+            dialnorm: if breaks(DIALNORM) {
+                0
+            } else {
+                1 + rng.below(31) as u32
+            },
+            deltas: if breaks(DELTBAIE) {
+                1 + rng.below(63) as u32
+            } else {
+                0
+            },
         }
     }
 
@@ -338,7 +346,11 @@ impl<'s> Profiles<'s> {
         }
         for acmod in 0..8 {
             for lfeon in 0..2 {
-                let order = Order { acmod, lfeon, ..WITHIN };
+                let order = Order {
+                    acmod,
+                    lfeon,
+                    ..WITHIN
+                };
                 match (acmod, lfeon) {
                     (2, 1) => self.edge("lfeon 1 with acmod 2", order, Some(LFEON)),
                     (7, 1) => self.edge("lfeon 1 with acmod 7", order, None),
@@ -358,7 +370,10 @@ impl<'s> Profiles<'s> {
             }
         }
         for frmsizecod in 0..38 {
-            let order = Order { frmsizecod, ..WITHIN };
+            let order = Order {
+                frmsizecod,
+                ..WITHIN
+            };
             match frmsizecod {
                 18 | 19 => self.edge("words 320, the next fewer", order, Some(WORDS)),
                 20 | 21 => self.edge("words 384", order, None),
@@ -370,7 +385,11 @@ impl<'s> Profiles<'s> {
         }
         for dialnorm in 0..32 {
             for acmod in [2, 7] {
-                let order = Order { dialnorm, acmod, ..WITHIN };
+                let order = Order {
+                    dialnorm,
+                    acmod,
+                    ..WITHIN
+                };
                 match dialnorm {
                     0 => self.edge("dialnorm 0", order, Some(DIALNORM)),
                     1 => self.edge("dialnorm 1", order, None),
@@ -403,7 +422,12 @@ impl<'s> Profiles<'s> {
             assert_eq!(self.ask(&capture, place, ROW * rows), alone);
         }
         self.name("a frame behind another");
-        for place in [capture.len() - 5, capture.len(), capture.len() + 1, usize::MAX] {
+        for place in [
+            capture.len() - 5,
+            capture.len(),
+            capture.len() + 1,
+            usize::MAX,
+        ] {
             assert_eq!(self.ask(&capture, place, ROW * rows), [1, 0, 0, 0]);
         }
         self.name("a place past the end");
@@ -432,7 +456,11 @@ impl<'s> Profiles<'s> {
                 frmsizecod: order.frmsizecod as usize,
                 acmod: order.acmod as usize,
                 bsid: order.bsid as usize,
-                delta: if order.deltas > 0 { rng.pick(&[10, 10, 50, 100]) } else { 0 },
+                delta: if order.deltas > 0 {
+                    rng.pick(&[10, 10, 50, 100])
+                } else {
+                    0
+                },
                 narrow: false,
                 ..Style::random(rng)
             };
@@ -518,7 +546,10 @@ impl<'s> Profiles<'s> {
             }
         };
         for refusal in 0..=REFUSALS {
-            reach(format!("refusal {refusal}"), self.refused.contains_key(&refusal));
+            reach(
+                format!("refusal {refusal}"),
+                self.refused.contains_key(&refusal),
+            );
         }
         for (rule, times) in self.told.iter().enumerate() {
             reach(format!("rule {rule} told"), *times > 0);
@@ -538,7 +569,10 @@ impl<'s> Profiles<'s> {
             }
         }
         for (block, times) in self.drawn_blocks.iter().enumerate() {
-            reach(format!("a drawn frame with deltbaie 1 first in block {block}"), *times > 0);
+            reach(
+                format!("a drawn frame with deltbaie 1 first in block {block}"),
+                *times > 0,
+            );
         }
         for what in NAMED {
             reach(what.into(), self.named.contains_key(what));

@@ -41,8 +41,18 @@ fn each_rule_alone() {
         assert_eq!(told(Order { bsid, ..order }), [3, 4]);
     }
     assert_eq!(told(Order { lfeon: 1, ..order }), [5, 8]);
-    assert_eq!(told(Order { dialnorm: 0, ..order }), [7, 9]);
-    let five = Order { acmod: 7, dialnorm: 0, ..order };
+    assert_eq!(
+        told(Order {
+            dialnorm: 0,
+            ..order
+        }),
+        [7, 9]
+    );
+    let five = Order {
+        acmod: 7,
+        dialnorm: 0,
+        ..order
+    };
     assert_eq!(told(five), [7, 10]);
 }
 
@@ -51,12 +61,21 @@ fn what_is_within() {
     for acmod in [2, 7] {
         for bsid in [6, 8] {
             for dialnorm in [1, 31] {
-                let order = Order { acmod, bsid, dialnorm, ..WITHIN };
+                let order = Order {
+                    acmod,
+                    bsid,
+                    dialnorm,
+                    ..WITHIN
+                };
                 assert_eq!(told(order), [0, 0]);
             }
         }
     }
-    let order = Order { acmod: 7, lfeon: 1, ..WITHIN };
+    let order = Order {
+        acmod: 7,
+        lfeon: 1,
+        ..WITHIN
+    };
     assert_eq!(told(order), [0, 0]);
 }
 
@@ -70,19 +89,40 @@ fn words_384_and_the_next_fewer() {
         (0, 128, [4, 3]),
         (37, 2560, [0, 0]),
     ] {
-        let order = Order { frmsizecod, ..WITHIN };
+        let order = Order {
+            frmsizecod,
+            ..WITHIN
+        };
         assert_eq!(order.frame(&mut Rng(1)).len(), bytes);
         assert_eq!(told(order), expected);
     }
     // 348 words at 44.1 kHz, 576 at 32 kHz: the first rule is told.
-    assert_eq!(told(Order { fscod: 1, frmsizecod: 18, ..WITHIN }), [1, 2]);
-    assert_eq!(told(Order { fscod: 2, frmsizecod: 20, ..WITHIN }), [1, 2]);
+    assert_eq!(
+        told(Order {
+            fscod: 1,
+            frmsizecod: 18,
+            ..WITHIN
+        }),
+        [1, 2]
+    );
+    assert_eq!(
+        told(Order {
+            fscod: 2,
+            frmsizecod: 20,
+            ..WITHIN
+        }),
+        [1, 2]
+    );
 }
 
 #[test]
 fn the_earliest_block_with_deltbaie() {
     for deltas in 1..64u32 {
-        let order = Order { deltas, dialnorm: 0, ..WITHIN };
+        let order = Order {
+            deltas,
+            dialnorm: 0,
+            ..WITHIN
+        };
         let [rule, at] = told(order);
         assert_eq!(rule, 6);
         let block = deltas.trailing_zeros() as i32;
@@ -122,7 +162,11 @@ fn the_order_of_the_rules() {
 
 #[test]
 fn a_refused_frame() {
-    let frame = Order { dialnorm: 0, ..WITHIN }.frame(&mut Rng(1));
+    let frame = Order {
+        dialnorm: 0,
+        ..WITHIN
+    }
+    .frame(&mut Rng(1));
     let mut room = fresh_room(ROW * MANY_ROWS);
     let [_, rows, rule, _] = profile(&frame, 0, &mut room);
     assert_eq!(rule, 7);
@@ -256,8 +300,16 @@ fn slipped(slip: &str, capture: &[u8], place: usize, room: &mut [i32]) -> Profil
         "dialnorm of 0 taken" => false,
         _ => dialnorm.1 == 0,
     };
-    let size_row = if is("the row of fscod for words") { fscod.0 } else { size.0 };
-    let lfe_row = if is("the row of acmod for lfeon") { acmod.0 } else { lfeon.0 };
+    let size_row = if is("the row of fscod for words") {
+        fscod.0
+    } else {
+        size.0
+    };
+    let lfe_row = if is("the row of acmod for lfeon") {
+        acmod.0
+    } else {
+        lfeon.0
+    };
     let mut checks = [
         (1, fscod.1 != 0, fscod.0),
         (2, !acmods.contains(&acmod.1), acmod.0),

@@ -43,8 +43,8 @@ fn profile(path: &Path) -> Result<bool, (u8, String)> {
             let message = format!("no frame at byte {place} of {length}: {refusal}");
             (NOT_WITHIN, message)
         };
-        let (profile, mut fields) =
-            check_into(&stream, place, &mut room).map_err(|refusal| refused(refusal.to_string()))?;
+        let (profile, mut fields) = check_into(&stream, place, &mut room)
+            .map_err(|refusal| refused(refusal.to_string()))?;
         let text = match profile {
             Profile::Within => format!("frame at byte {place}: {profile}\n"),
             Profile::Broken { row, .. } => {

@@ -10,7 +10,9 @@ fn expected(frame: &Frame) -> Profile {
     let row = |name: &str| frame.fields.iter().position(|f| f.name == name).unwrap();
     let value = |name: &str| frame.fields[row(name)].value;
     let delta = frame.fields.iter();
-    let delta = delta.enumerate().find(|(_, f)| f.name == "deltbaie" && f.value == 1);
+    let delta = delta
+        .enumerate()
+        .find(|(_, f)| f.name == "deltbaie" && f.value == 1);
     let broken = |rule, row| Profile::Broken { rule, row };
     if value("fscod") != 0 {
         broken(Rule::Fscod, row("fscod"))
@@ -79,7 +81,11 @@ fn edges_of_the_rules() {
             rule: Rule::Dialnorm,
             row: 9,
         };
-        let expected = if dialnorm == 0 { broken } else { Profile::Within };
+        let expected = if dialnorm == 0 {
+            broken
+        } else {
+            Profile::Within
+        };
         assert_eq!(told, expected, "dialnorm {dialnorm}");
     }
     // Other values of bsid than 6 have one syntax.
@@ -110,7 +116,9 @@ fn refusals_are_those_of_the_parse() {
         let of_parse = parse_into(&frame[..bytes], place, &mut parsed).unwrap_err();
         assert_eq!((refusal.number, of_parse.number), (number, number));
         assert_eq!(refusal.meaning(), of_parse.meaning());
-        assert!(refusal.to_string().starts_with(&format!("refusal {number}: ")));
+        assert!(refusal
+            .to_string()
+            .starts_with(&format!("refusal {number}: ")));
         assert!(*told == parsed[..], "the room at refusal {number}");
     }
     let bsid = edited(&frame, "bsid", 9);
@@ -127,6 +135,9 @@ fn the_fields_are_those_of_the_parse() {
     let Profile::Broken { rule, row } = told else {
         panic!("dialnorm is 0");
     };
-    assert_eq!((rule, list[row].name, list[row].value), (Rule::Dialnorm, "dialnorm", 0));
+    assert_eq!(
+        (rule, list[row].name, list[row].value),
+        (Rule::Dialnorm, "dialnorm", 0)
+    );
     assert!(room[list.len() * ROW_NUMBERS..].iter().all(|n| *n == 7));
 }

@@ -56,7 +56,11 @@ fn main() {
     let told = profiles.told.iter().copied().enumerate();
     println!("accepted frames by rule (0: within): {}", counted(told));
     let sets = (profiles.sets.len(), profiles.sets.iter().min());
-    println!("{} sets of rules, each at least {} times", sets.0, sets.1.unwrap_or(&0));
+    println!(
+        "{} sets of rules, each at least {} times",
+        sets.0,
+        sets.1.unwrap_or(&0)
+    );
     let blocks = profiles.deltas[1..].iter().min().unwrap_or(&0);
     println!("63 sets of blocks with deltbaie 1, each at least {blocks} times");
     let drawn: usize = profiles.drawn.values().sum();

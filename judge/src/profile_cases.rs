@@ -155,7 +155,7 @@ pub struct Profiles<'s> {
     pub told: [usize; RULES + 1],
     /// Frames made to order, by the set of rules that they break.
     pub sets: [usize; SETS],
-    /// Frames that break the sixth rule first, by the set of blocks with deltbaie 1: made to order, and all.
+    /// Frames made to order that break the sixth rule first, by the set of blocks with deltbaie 1.
     pub deltas: [usize; BLOCK_SETS],
     /// Drawn frames that break no rule, exactly one, or exactly two.
     pub drawn: BTreeMap<Vec<usize>, usize>,

@@ -254,6 +254,46 @@ enum {
 void ferrysprig_aht(const uint8_t *data, size_t data_len, size_t at, size_t end, const uint8_t *hebap, size_t hebap_len, size_t first,
                     size_t past, size_t answer[FERRYSPRIG_AHT_ANSWER_NUMBERS]);
 
+/* The contribution profile: the part of AC-3 that a carrier takes. */
+
+/* The numbers of an answer about the profile. */
+enum {
+    FERRYSPRIG_PROFILE_ANSWER_REFUSAL = 0, /* 0: the frame was accepted; else 1 to 23: the frame's own, see FERRYSPRIG_MEANINGS */
+    FERRYSPRIG_PROFILE_ANSWER_ROWS = 1,    /* how many rows were written by parsing, on a refusal too */
+    FERRYSPRIG_PROFILE_ANSWER_RULE = 2,    /* the first broken rule, FERRYSPRIG_RULE_FSCOD and so on; 0: within, and on a refusal */
+    FERRYSPRIG_PROFILE_ANSWER_ROW = 3      /* the row that breaks it, from 0; 0 where there is none */
+};
+#define FERRYSPRIG_PROFILE_ANSWER_NUMBERS 4
+
+/* The rules, in their order. */
+enum {
+    FERRYSPRIG_RULE_FSCOD = 1,    /* fscod is 0 */
+    FERRYSPRIG_RULE_ACMOD = 2,    /* acmod is 2 or 7 */
+    FERRYSPRIG_RULE_BSID = 3,     /* bsid is 6 or 8 */
+    FERRYSPRIG_RULE_WORDS = 4,    /* the frame has 384 words or more; the row is that of frmsizecod */
+    FERRYSPRIG_RULE_LFEON = 5,    /* lfeon is 1 only with acmod 7 */
+    FERRYSPRIG_RULE_DELTBAIE = 6, /* deltbaie is 0 in every block; the row is that of the first block where it is not */
+    FERRYSPRIG_RULE_DIALNORM = 7  /* the first programme's dialnorm is not 0 */
+};
+
+/* What is wrong where a rule is broken, by its number. */
+#define FERRYSPRIG_RULES { \
+    /* 0 */ "within the profile", \
+    /* 1 */ "fscod is not 0", \
+    /* 2 */ "acmod is neither 2 nor 7", \
+    /* 3 */ "bsid is neither 6 nor 8", \
+    /* 4 */ "the frame has fewer than 384 words", \
+    /* 5 */ "lfeon is 1, and acmod is not 7", \
+    /* 6 */ "a block has deltbaie 1", \
+    /* 7 */ "dialnorm is 0" \
+}
+
+/* Parses the frame at byte `place` of `capture` into the lent `rows`, as ferrysprig_parse does, and holds it against the profile. Of the
+   rules that it breaks the first is told, with the row that breaks it; a frame is within exactly when it breaks none. Everything that is
+   said of ferrysprig_parse holds here: any input is answered, and `rows` and `answer` overlap nothing. */
+void ferrysprig_profile(const uint8_t *capture, size_t capture_len, size_t place, int32_t *rows, size_t rows_len,
+                        int32_t answer[FERRYSPRIG_PROFILE_ANSWER_NUMBERS]);
+
 /* IEC 61937 data bursts: a frame as 6,144 bytes, and back. docs/FORMAT.md has a burst word by word. */
 
 /* The bytes of a burst. */

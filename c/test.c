@@ -394,6 +394,74 @@ static void try_salvage(void) {
               && FERRYSPRIG_MOST_ENTRIES(128) == 3 && FERRYSPRIG_MOST_ENTRIES(258) == 5);
 }
 
+/* A frame within the profile, of 768 bytes with zeros behind these: words 384, bsid 8, acmod 2, dialnorm 1 (row 9, bit 54), 135 rows. The
+   deltbaie of block b is row 62 + 14 b, at bit 224 + 15 b. */
+static const uint8_t within[] = {0x0B, 0x77, 0x00, 0x00, 0x14, 0x40, 0x40, 0x20, 0x00, 0xA1, 0xE0, 0x00, 0x0F, 0x9F, 0x3E, 0x7C, 0xF9, 0xF0,
+    0x0F, 0x9F, 0x3E, 0x7C, 0xF9, 0xF1, 0x00, 0x10};
+static uint8_t contribution[900];
+static int32_t profile_answer[FERRYSPRIG_PROFILE_ANSWER_NUMBERS + 1];
+
+/* Puts a frame that begins so in front of zeros. */
+static void contribute(const uint8_t *front, size_t length) {
+    memset(contribution, 0, sizeof contribution);
+    memcpy(contribution, front, length);
+}
+
+/* Whether the answer is this, nothing behind it is touched, and the room is as ferrysprig_parse leaves it. */
+static bool profiled(size_t length, size_t place, size_t numbers, int32_t refusal, int32_t count, int32_t rule, int32_t row) {
+    static int32_t parsed[sizeof room / sizeof *room];
+    for (size_t i = 0; i < sizeof room / sizeof *room; i++)
+        room[i] = parsed[i] = UNTOUCHED;
+    for (size_t i = 0; i < sizeof profile_answer / sizeof *profile_answer; i++)
+        profile_answer[i] = UNTOUCHED;
+    ferrysprig_parse(contribution, length, place, parsed, numbers, answer);
+    ferrysprig_profile(contribution, length, place, room, numbers, profile_answer);
+    return memcmp(room, parsed, sizeof room) == 0 && profile_answer[FERRYSPRIG_PROFILE_ANSWER_REFUSAL] == refusal
+        && profile_answer[FERRYSPRIG_PROFILE_ANSWER_ROWS] == count && profile_answer[FERRYSPRIG_PROFILE_ANSWER_RULE] == rule
+        && profile_answer[FERRYSPRIG_PROFILE_ANSWER_ROW] == row && profile_answer[FERRYSPRIG_PROFILE_ANSWER_NUMBERS] == UNTOUCHED;
+}
+
+static void try_profile(void) {
+    enum { ALL = sizeof contribution, ROWS = 200 * WIDTH, COUNT = 135 };
+    const uint8_t mono[] = {0x0B, 0x77, 0x00, 0x00, 0x00, 0x40, 0x20, 0x00, 0x0B, 0x00, 0x1F, 0x3E, 0x7C, 0xF9, 0xF3, 0xE2, 0x00, 0x20};
+    /* With deltbaie 1 in blocks 3 and 5 and dialnorm 0, too. */
+    const uint8_t lfe[] = {0x0B, 0x77, 0x00, 0x00, 0x14, 0x40, 0x44, 0x00, 0x00, 0xA1, 0xF0, 0x00, 0x07, 0xCF, 0x9F, 0x3E, 0x7C, 0xF8,
+        0x07, 0xCF, 0x9F, 0x3E, 0x7C, 0xF8, 0x07, 0xCF, 0xA0, 0x02, 0x00, 0x00, 0x00, 0x00, 0x00, 0x00, 0x00, 0x00, 0x00, 0x34, 0x00, 0x00,
+        0x00, 0x03, 0x40};
+    contribute(within, sizeof within);
+    holds("a frame within the profile", profiled(ALL, 0, ROWS, 0, COUNT, 0, 0));
+    holds("just enough of it, and of room", profiled(768, 0, COUNT * WIDTH, 0, COUNT, 0, 0));
+    holds("a byte too few", profiled(767, 0, ROWS, 4, 4, 0, 0));
+    holds("a number of room too few", profiled(ALL, 0, COUNT * WIDTH - 1, 7, COUNT - 1, 0, 0));
+    holds("no sync word at the next byte", profiled(ALL, 1, ROWS, 2, 1, 0, 0));
+    holds("a place far past the end of it", profiled(ALL, SIZE_MAX, ROWS, 1, 0, 0, 0));
+    contribution[4] = 0x54; /* 834 bytes */
+    holds("fscod 1", profiled(ALL, 0, ROWS, 0, COUNT, FERRYSPRIG_RULE_FSCOD, 2));
+    contribution[4] = 0x13; /* 640 bytes */
+    holds("words 320", profiled(ALL, 0, ROWS, 0, COUNT, FERRYSPRIG_RULE_WORDS, 3));
+    contribution[5] = 0x38;
+    holds("bsid 7 comes before them", profiled(ALL, 0, ROWS, 0, COUNT, FERRYSPRIG_RULE_BSID, 4));
+    contribution[4] = 0x14;
+    contribution[5] = 0x30;
+    holds("bsid 6", profiled(ALL, 0, ROWS, 0, COUNT, 0, 0));
+    contribution[7] = 0;
+    holds("dialnorm 0", profiled(ALL, 0, ROWS, 0, COUNT, FERRYSPRIG_RULE_DIALNORM, 9));
+    contribution[37] = 0x10; /* bit 299 */
+    holds("deltbaie in block 5 comes before it", profiled(ALL, 0, ROWS, 0, COUNT + 2, FERRYSPRIG_RULE_DELTBAIE, 62 + 14 * 5));
+    contribution[35] = 0x08; /* bit 284 */
+    contribution[37] = 0x01; /* bit 303: block 4 has four bits more */
+    holds("and in block 4 before that", profiled(ALL, 0, ROWS, 0, COUNT + 4, FERRYSPRIG_RULE_DELTBAIE, 62 + 14 * 4));
+    holds("the row told is deltbaie's", room[(62 + 14 * 4) * WIDTH + FERRYSPRIG_ROW_NAME] == 97
+              && room[(62 + 14 * 4) * WIDTH + FERRYSPRIG_ROW_BLOCK] == 4 && room[(62 + 14 * 4) * WIDTH + FERRYSPRIG_ROW_VALUE] == 1);
+    contribute(lfe, sizeof lfe);
+    holds("lfeon with acmod 2", profiled(ALL, 0, ROWS, 0, 150, FERRYSPRIG_RULE_LFEON, 8));
+    contribute(mono, sizeof mono);
+    holds("acmod 1", profiled(ALL, 0, ROWS, 0, 95, FERRYSPRIG_RULE_ACMOD, 6));
+    memset(profile_answer, 0xA5, sizeof profile_answer);
+    ferrysprig_profile(NULL, 0, 0, NULL, 0, profile_answer);
+    holds("the profile of nothing at all", profile_answer[0] == 1 && profile_answer[1] == 0 && profile_answer[2] == 0 && profile_answer[3] == 0);
+}
+
 static void try_texts(void) {
     static const char *const names[] = FERRYSPRIG_NAMES;
     static const char *const roles[] = FERRYSPRIG_ROLES;
@@ -407,6 +475,10 @@ static void try_texts(void) {
               && strcmp(meanings[24], "the header answer does not fit the input") == 0 && strcmp(meanings[33], "a byte after the frame is not 0") == 0
               && strcmp(meanings[26], "a hebap is above 19") == 0 && strcmp(meanings[36], "no entry of the list is left") == 0
               && strcmp(meanings[57], "the width is not 1 to 16") == 0);
+    static const char *const rules[] = FERRYSPRIG_RULES;
+    holds("rules by their numbers", sizeof rules / sizeof *rules == 8 && strcmp(rules[0], "within the profile") == 0
+              && strcmp(rules[FERRYSPRIG_RULE_WORDS], "the frame has fewer than 384 words") == 0
+              && strcmp(rules[FERRYSPRIG_RULE_DIALNORM], "dialnorm is 0") == 0);
     bool empty = meanings[29][0] == '\0';
     for (int i = 38; i < 57; i++)
         empty = empty && meanings[i][0] == '\0';
@@ -419,9 +491,9 @@ static uint8_t stream[65536];
 static size_t stream_len;
 static ucontext_t here, there;
 
-/* What is called: the header of each frame of a stream and then its blocks; the parse of each; each frame written as a burst and read; the
-   stream salvaged. (The deepest comes first: what binding takes is taken once.) And its bytes are walked over as if they were AHT
-   sections. */
+/* What is called: the header of each frame of a stream and then its blocks; the profile and the parse of each; each frame written as a burst
+   and read; the stream salvaged. (The deepest comes first: what binding takes is taken once.) And its bytes are walked over as if they were
+   AHT sections. */
 static enum { APART, PARSES, BURSTS, SALVAGE, WAYS } way;
 
 static void call(void) {
@@ -450,6 +522,7 @@ static void call(void) {
                 ferrysprig_burst_read(out, FERRYSPRIG_BURST_BYTES, room, numbers, back, sizeof back, answer);
             place += (size_t)answer[FERRYSPRIG_BURST_ANSWER_WRITTEN];
         } else {
+            ferrysprig_profile(stream, stream_len, place, room, numbers, profile_answer);
             ferrysprig_parse(stream, stream_len, place, room, numbers, answer);
             place += (size_t)answer[FERRYSPRIG_ANSWER_BYTES];
         }
@@ -498,6 +571,7 @@ int main(int argc, char **argv) {
     try_aht();
     try_bursts();
     try_salvage();
+    try_profile();
     try_texts();
     try_stack(argc - 1, argv + 1);
     return all_hold ? 0 : 1;

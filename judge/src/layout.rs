@@ -96,3 +96,6 @@ pub const ENTRY: usize = 3;
 
 /// An answer about an AHT section: refusal, the bit after it, tags.
 pub type AhtAnswer = [usize; 3];
+
+/// An answer about the profile: refusal, rows of the parse, the first broken rule (0: none), the row that breaks it.
+pub type ProfileAnswer = [i32; 4];

@@ -61,6 +61,8 @@ pub mod listing;
 pub mod moving;
 pub mod names;
 pub mod parts;
+pub mod profile;
+pub mod profile_cases;
 pub mod replay;
 pub mod rng;
 pub mod salvage;

@@ -152,3 +152,20 @@ pub mod aht_answer_at {
 }
 
 pub type AhtAnswer = [usize; AHT_ANSWER_NUMBERS];
+
+/// The numbers of an answer about the profile.
+pub const PROFILE_ANSWER_NUMBERS: usize = 4;
+
+/// Which number of an answer about the profile is which.
+pub mod profile_answer_at {
+    /// 0 if the frame was accepted.
+    pub const REFUSAL: usize = 0;
+    /// How many rows were written.
+    pub const ROWS: usize = 1;
+    /// The first broken rule; 0 if none is broken.
+    pub const RULE: usize = 2;
+    /// The row that breaks it, from 0.
+    pub const ROW: usize = 3;
+}
+
+pub type ProfileAnswer = [i32; PROFILE_ANSWER_NUMBERS];

@@ -71,6 +71,10 @@
 //!
 //! [`salvage`] goes through a damaged capture: it gives the frames that are left, one after the other, and a list of frames and gaps.
 //!
+//! # The contribution profile
+//!
+//! [`profile`] says whether a frame is one that a carrier takes, and if not, which rule is broken by which field.
+//!
 //! # AHT sections
 //!
 //! [`aht`] tells where a section of E-AC-3's adaptive hybrid transform ends, and how many tags it has. Mantissa values steer that length.
@@ -137,6 +141,7 @@ mod header;
 mod layout;
 mod names;
 mod parser;
+pub mod profile;
 mod raw;
 pub mod salvage;
 

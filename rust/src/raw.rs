@@ -1,10 +1,10 @@
 //! The archive's functions (c/ferrysprig.h) as safe ones. All unsafe code of the crate stands here; compare/ takes this file, too.
 
 use crate::layout::{
-    answer_at, burst_answer_at, header_answer_at, salvage_answer_at, AhtAnswer, Answer,
-    BurstAnswer, HeaderAnswer, SalvageAnswer, AHT_ANSWER_NUMBERS, ANSWER_NUMBERS,
-    BURST_ANSWER_NUMBERS, ENTRY_NUMBERS, HEADER_ANSWER_NUMBERS, ROW_NUMBERS,
-    SALVAGE_ANSWER_NUMBERS,
+    answer_at, burst_answer_at, header_answer_at, profile_answer_at, salvage_answer_at, AhtAnswer,
+    Answer, BurstAnswer, HeaderAnswer, ProfileAnswer, SalvageAnswer, AHT_ANSWER_NUMBERS,
+    ANSWER_NUMBERS, BURST_ANSWER_NUMBERS, ENTRY_NUMBERS, HEADER_ANSWER_NUMBERS,
+    PROFILE_ANSWER_NUMBERS, ROW_NUMBERS, SALVAGE_ANSWER_NUMBERS,
 };
 
 extern "C" {
@@ -32,6 +32,14 @@ extern "C" {
         rows_len: usize,
         header: *const HeaderAnswer,
         answer: *mut Answer,
+    );
+    fn ferrysprig_profile(
+        capture: *const u8,
+        capture_len: usize,
+        place: usize,
+        rows: *mut i32,
+        rows_len: usize,
+        answer: *mut ProfileAnswer,
     );
     fn ferrysprig_range_eq(
         x: *const u8,
@@ -152,6 +160,27 @@ pub fn blocks<'a>(
         );
     }
     (answer, rows_written(answer[answer_at::ROWS], rows))
+}
+
+/// Parses as `parse` does, and holds the frame against the profile; the answer, and the rows that it says were written.
+pub fn profile<'a>(
+    capture: &[u8],
+    place: usize,
+    rows: &'a mut [i32],
+) -> (ProfileAnswer, &'a [i32]) {
+    let mut answer = [0; PROFILE_ANSWER_NUMBERS];
+    // SAFETY: as in `parse`.
+    unsafe {
+        ferrysprig_profile(
+            capture.as_ptr(),
+            capture.len(),
+            place,
+            rows.as_mut_ptr(),
+            rows.len(),
+            &mut answer,
+        );
+    }
+    (answer, rows_written(answer[profile_answer_at::ROWS], rows))
 }
 
 /// The rows that an answer says were written. A count is a length only if it fits the room. It always does, which is proved; that the

@@ -6,13 +6,14 @@ mod files;
 mod layout;
 
 use ferrysprig::burst::{self, Refusal};
+use ferrysprig::profile::{Profile, Rule};
 use ferrysprig::{aht, blocks_into, edit, header, parse, salvage, Field, Role, NAMES, REFUSALS};
 use ferrysprig::{LEAST_BYTES, MOST_BYTES, MOST_HEADER_ROWS, MOST_ROWS, ROW_NUMBERS};
 use files::text;
 use layout::{aht_answer_at, answer_at, burst_answer_at, entry_at, header_answer_at};
-use layout::{kind, row_at, salvage_answer_at};
+use layout::{kind, profile_answer_at, row_at, salvage_answer_at};
 use layout::{AHT_ANSWER_NUMBERS, ANSWER_NUMBERS, BURST_ANSWER_NUMBERS, ENTRY_NUMBERS};
-use layout::{HEADER_ANSWER_NUMBERS, SALVAGE_ANSWER_NUMBERS};
+use layout::{HEADER_ANSWER_NUMBERS, PROFILE_ANSWER_NUMBERS, SALVAGE_ANSWER_NUMBERS};
 
 #[test]
 fn names_are_those_of_the_list() {
@@ -125,6 +126,8 @@ fn numbers_are_those_of_the_header() {
     assert_eq!(ENTRY_NUMBERS, number("FERRYSPRIG_ENTRY_NUMBERS"));
     let of_aht = number("FERRYSPRIG_AHT_ANSWER_NUMBERS");
     assert_eq!(AHT_ANSWER_NUMBERS, of_aht);
+    let of_profile = number("FERRYSPRIG_PROFILE_ANSWER_NUMBERS");
+    assert_eq!(PROFILE_ANSWER_NUMBERS, of_profile);
     assert_eq!(MOST_ROWS, number("FERRYSPRIG_MOST_ROWS"));
     assert_eq!(MOST_HEADER_ROWS, number("FERRYSPRIG_MOST_HEADER_ROWS"));
     assert_eq!(MOST_BYTES, number("FERRYSPRIG_MOST_BYTES"));
@@ -151,6 +154,14 @@ fn places(prefix: &str) -> Vec<(String, usize)> {
         Some((name.to_string(), number.parse().unwrap()))
     });
     named.collect()
+}
+
+/// The texts of the rules are those of the header.
+#[test]
+fn rules_are_those_of_the_header() {
+    let mut said = vec![Profile::Within.to_string()];
+    said.extend(Rule::ALL.map(|rule| rule.meaning().to_string()));
+    assert_eq!(table("FERRYSPRIG_RULES"), said);
 }
 
 #[test]
@@ -217,6 +228,22 @@ fn places_are_those_of_the_header() {
         ("END", aht_answer_at::END),
         ("TAGS", aht_answer_at::TAGS),
     ];
+    let profile = [
+        ("REFUSAL", profile_answer_at::REFUSAL),
+        ("ROWS", profile_answer_at::ROWS),
+        ("RULE", profile_answer_at::RULE),
+        ("ROW", profile_answer_at::ROW),
+    ];
+    let rules = [
+        ("FSCOD", Rule::Fscod),
+        ("ACMOD", Rule::Acmod),
+        ("BSID", Rule::Bsid),
+        ("WORDS", Rule::Words),
+        ("LFEON", Rule::Lfeon),
+        ("DELTBAIE", Rule::Deltbaie),
+        ("DIALNORM", Rule::Dialnorm),
+    ]
+    .map(|(name, rule)| (name, usize::from(rule.number())));
     let own = |ours: &[(&str, usize)]| {
         let pairs = ours.iter().map(|(name, at)| (name.to_string(), *at));
         pairs.collect::<Vec<_>>()
@@ -229,6 +256,8 @@ fn places_are_those_of_the_header() {
     assert_eq!(places("FERRYSPRIG_ENTRY_"), own(&entry));
     assert_eq!(places("FERRYSPRIG_KIND_"), own(&kinds));
     assert_eq!(places("FERRYSPRIG_AHT_ANSWER_"), own(&aht));
+    assert_eq!(places("FERRYSPRIG_PROFILE_ANSWER_"), own(&profile));
+    assert_eq!(places("FERRYSPRIG_RULE_"), own(&rules));
 }
 
 #[test]

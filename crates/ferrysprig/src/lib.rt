@@ -5,6 +5,7 @@ use ac3::Answer;
 use apart::HEADER_ANSWER;
 use apart::are_taken;
 use apart::header_numbers;
+use profile::numbers_of;
 use syntax::rows::shown;
 ghost use mathlib.Core.Path.{_≡_};
 ghost use Prim.Native.Nat.{_≤_};
@@ -21,12 +22,15 @@ ghost use Rattle.ferrysprig.specs.Apart.{headerTold, blocksHeld};
 ghost use Rattle.salvage.specs.Lent.{salvaged};
 ghost use Rattle.aht.specs.Aht.{ahtOf};
 ghost use Rattle.ferrysprig.specs.Aht.{ahtNumbers};
+ghost use Rattle.profile.specs.Answers.{numbersOf, profileTo};
 ghost use Rattle.ferrysprig.specs.Bursts.{burstInOrder, burstNumbers, burstTold};
 ghost use Rattle.ferrysprig.specs.Numbers.{flag, inOrder, answerNumbers, told};
+ghost use Rattle.ferrysprig.specs.Profiles.{profileInOrder, profileNumbers, profileTold};
 ghost use Rattle.ferrysprig.specs.Promise.{PromisedNumbers};
 ghost use Rattle.ferrysprig.specs.Salvages.{salvageNumbers, salvageTold};
 
-// The numbers of an answer, of one about a burst, and of one about a salvage. The block of what did not fit stands after those that are never negative.
+// The numbers of an answer, and of those about a burst, a salvage and the profile. The block of what did not fit stands after those that are
+// never negative.
 pub const ANSWER: usize = BLOCK + 1;
 
 const BLOCK: usize = 25;
@@ -34,6 +38,8 @@ const BLOCK: usize = 25;
 pub const BURST_ANSWER: usize = 3;
 
 pub const SALVAGE_ANSWER: usize = 3;
+
+pub const PROFILE_ANSWER: usize = 4;
 
 fn flag(b: bool) -> u16
     ensures { λ r. ⌜ r ≡ flag b ⌝ }
@@ -250,4 +256,42 @@ pub extern "C" fn ferrysprig_aht(
 {
     let walked = aht::aht(bytes, at, end, hebap, first, past);
     *answer = [walked.refusal as usize, walked.end, walked.tags];
+}
+
+// The numbers of an answer about the profile in their order.
+fn profile_in_order(judged: profile::Answer) -> [u16; PROFILE_ANSWER]
+    requires { ⌜ (judged .rows ≤ mostRows) × (numbersOf (judged .verdict) .row ≤ mostRows) ⌝ }
+    ensures { λ r. ⌜ r ≡ profileInOrder judged ⌝ }
+{
+    let verdict = judged.verdict;
+    let told = numbers_of(verdict);
+    [
+        told.refusal as u16,
+        judged.rows as u16,
+        told.rule as u16,
+        told.row as u16,
+    ]
+}
+
+fn profile_numbers(a: profile::Answer) -> [i32; PROFILE_ANSWER]
+    requires { ⌜ (a .rows ≤ mostRows) × (numbersOf (a .verdict) .row ≤ mostRows) ⌝ }
+    ensures { λ r. ⌜ r ≡ profileNumbers a ⌝ }
+{
+    let small = profile_in_order(a);
+    let mut out = [0i32; PROFILE_ANSWER];
+    writer::numbers(&small, &mut out);
+    out
+}
+
+// Holds the frame at a place of a capture against the contribution profile, and writes the answer's numbers.
+#[no_mangle]
+pub extern "C" fn ferrysprig_profile(
+    capture: &[u8],
+    place: usize,
+    rows: &mut [i32],
+    answer: &mut [i32; PROFILE_ANSWER],
+)
+    ensures { λ _. ⌜ (now (answer .exit), now (rows .exit)) ≡ profileTold (profileTo (now (capture .entry)) place (now (rows .entry))) ⌝ }
+{
+    *answer = profile_numbers(profile::profile(capture, place, rows));
 }

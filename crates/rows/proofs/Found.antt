@@ -20,8 +20,8 @@ use Rattle.syntax.specs.Run.{Row, Spot, Result, Check, clear, stop, unless, run
 use Rattle.ac3.specs.Frame.{syncframe}
 use Rattle.ac3.specs.Promise.{Call, input, roomFor, listed, answerTo}
 use Rattle.ac3.proofs.Promise.{promised}
-use Rattle.rows.specs.Look.{nameColumn, valueColumn, first, valueIn}
-use Rattle.rows.specs.Found.{indexOf, valueOf, First, rowAt, Looked, LooksUp}
+use Rattle.rows.specs.Look.{nameColumn, valueColumn, named, firstWhere, first, valueIn}
+use Rattle.rows.specs.Found.{indexWhere, indexOf, valueOf, First, rowAt, Looked, LooksUp}
 use Rattle.rows.proofs.Look.{hit, miss, value-found, value-none}
 
 -- ---- a row at the front of a run
@@ -42,27 +42,31 @@ module _ (r : Row) (rest : List ℤ) where
       ap (λ k. take rowWidth (drop k (numbers r ++ rest))) places
       ∙ ap (take rowWidth) (sym (drop-drop (i * rowWidth) rowWidth (numbers r ++ rest)) ∙ ap (drop (i * rowWidth)) behind)
 
--- ---- by name
+-- ---- by any test that says the same of a row and of its numbers
 
-module _ (name : ℕ) where
-  place : (rs : List Row) (more : List ℤ) → first (length rs) name (flatten rs ++ more) ≡ indexOf name rs
-  unfolding first indexOf flatten
+module _ (test : List ℤ → Bool) (says : Row → Bool) (tells : (r : Row) (rest : List ℤ) → test (numbers r ++ rest) ≡ says r) where
+  pub place : (rs : List Row) (more : List ℤ) → firstWhere test (length rs) (flatten rs ++ more) ≡ indexWhere says rs
+  unfolding firstWhere indexWhere flatten
   place [] more = refl
-  place (r ∷ rs) more = go (eqb (r .item .name) name) refl (place rs more)
+  place (r ∷ rs) more = go (says r) refl (place rs more)
     where
       rest : List ℤ
       rest = flatten rs ++ more
 
-      go : (b : Bool) → eqb (r .item .name) name ≡ b → first (length rs) name rest ≡ indexOf name rs
-          → first (suc (length rs)) name ((numbers r ++ flatten rs) ++ more) ≡ cond b 0 (suc (indexOf name rs))
-      go true e later = hit name (length rs) (numbers r ++ rest) (whole r rest) (ap pos (eqb-true (r .item .name) name e))
+      go : (b : Bool) → says r ≡ b → firstWhere test (length rs) rest ≡ indexWhere says rs
+          → firstWhere test (suc (length rs)) ((numbers r ++ flatten rs) ++ more) ≡ cond b 0 (suc (indexWhere says rs))
+      go true e later = hit test (length rs) (numbers r ++ rest) (whole r rest) (tells r rest ∙ e)
       go false e later =
-          miss name (length rs) (numbers r ++ rest) (whole r rest) (λ same. eqb-false (r .item .name) name e (let n : r .item .name ≡ name = cc in n))
-          ∙ ap (λ l. suc (first (length rs) name l)) (behind r rest)
-          ∙ ap suc later
+          miss test (length rs) (numbers r ++ rest) (whole r rest) (tells r rest ∙ e) ∙ ap (λ l. suc (firstWhere test (length rs) l)) (behind r rest) ∙ ap suc later
+
+-- ---- by name
+
+module _ (name : ℕ) where
+  named-place : (rs : List Row) (more : List ℤ) → first (length rs) name (flatten rs ++ more) ≡ indexOf name rs
+  named-place = place (named name) (λ r. eqb (r .item .name) name) (λ r rest. refl)
 
   index : (rs : List Row) (i : ℕ) (r : Row) → First name rs i r → indexOf name rs ≡ i
-  unfolding indexOf
+  unfolding indexWhere
   index [] i r h = absurd h
   index (x ∷ xs) zero r h = rw (eq-eqb (x .item .name) name (ap (λ x. x .item .name) (h .0) ∙ h .1))
   index (x ∷ xs) (suc i) r h = rw (ne-eqb (x .item .name) name (h .0)) (ap suc (index xs i r (h .1)))
@@ -80,7 +84,7 @@ module _ (name : ℕ) where
   row-numbers (x ∷ xs) more (suc i) r h = past x (flatten xs ++ more) i ∙ row-numbers xs more i r (h .1)
 
   found : (rs : List Row) → indexOf name rs < length rs → (r : Row) × First name rs (indexOf name rs) r
-  unfolding indexOf
+  unfolding indexWhere
   found [] h = absurd (omega (arith, h))
   found (x ∷ xs) h = go (eqb (x .item .name) name) refl h (found xs)
     where
@@ -91,7 +95,7 @@ module _ (name : ℕ) where
       go false e h later = let l = later (omega arith) in (l .0, (eqb-false (x .item .name) name e, l .1))
 
   no-value : (rs : List Row) → length rs ≤ indexOf name rs → valueOf name rs ≡ 0
-  unfolding indexOf valueOf
+  unfolding indexWhere valueOf
   no-value [] h = refl
   no-value (x ∷ xs) h = go (eqb (x .item .name) name) h (no-value xs)
     where
@@ -110,11 +114,11 @@ module _ (name : ℕ) where
       i = indexOf name rs
 
       go : Dec (length rs ≤ i) → valueIn (length rs) name room ≡ pos (valueOf name rs)
-      go (Dec.yes h) = value-none (length rs) name room (omega (arith, place rs more)) ∙ ap pos (sym (no-value rs h))
+      go (Dec.yes h) = value-none (length rs) name room (omega (arith, named-place rs more)) ∙ ap pos (sym (no-value rs h))
       go (Dec.no h) =
           let there = found rs (omega arith) in
-          value-found (length rs) name room (omega (arith, place rs more))
-          ∙ ap (λ k. getD room (k * rowWidth + valueColumn) (pos 0)) (place rs more)
+          value-found (length rs) name room (omega (arith, named-place rs more))
+          ∙ ap (λ k. getD room (k * rowWidth + valueColumn) (pos 0)) (named-place rs more)
           ∙ sym (getD-drop (i * rowWidth) room valueColumn (pos 0))
           ∙ sym (getD-take rowWidth (drop (i * rowWidth) room) valueColumn (pos 0) (omega arith))
           ∙ ap (λ row. getD row valueColumn (pos 0)) (row-numbers rs more i (there .0) (there .1))
@@ -161,7 +165,7 @@ looks-up c name =
     let room = kept .written in
     let count = kept .counted in
     record {
-      place = (λ j. first (count j) name (room j)) ∙ place name rs more;
+      place = (λ j. first (count j) name (room j)) ∙ named-place name rs more;
       valued = (λ j. valueIn (count j) name (room j)) ∙ valued name rs more;
       found = found name rs;
       index = index name rs;

@@ -1,5 +1,5 @@
 -- What is found by name in the room after a call: the first row of that name in the definition's list, with all its numbers.
-use mathlib.Core.Bool.{false, cond}
+use mathlib.Core.Bool.{Bool, false, cond}
 use mathlib.Core.List.{List, [], _∷_, _++_}
 use mathlib.Core.Path.{_≡_}
 use Prim.Native.Nat.{ℕ, zero, suc, _*_, _<_}
@@ -16,10 +16,14 @@ use Rattle.syntax.specs.Run.{Row, row, steering, unsteering}
 use Rattle.ac3.specs.Promise.{Call, input, listed, answerTo, Accepted}
 use Rattle.rows.specs.Look.{first, valueIn}
 
--- how many rows of a list stand before the first one of this name: all where none has it
-unfoldable pub indexOf : (name : ℕ) → List Row → ℕ
-indexOf name [] = 0
-indexOf name (r ∷ rs) = cond (eqb (r .item .name) name) 0 (suc (indexOf name rs))
+-- how many rows of a list stand before the first one of which a test says yes: all where it says so of none
+unfoldable pub indexWhere : (says : Row → Bool) → List Row → ℕ
+indexWhere says [] = 0
+indexWhere says (r ∷ rs) = cond (says r) 0 (suc (indexWhere says rs))
+
+-- before the first one of this name
+abbrev pub indexOf : (name : ℕ) → List Row → ℕ
+indexOf name rs = indexWhere (λ r. eqb (r .item .name) name) rs
 
 -- its value; 0 where none has the name
 unfoldable pub valueOf : (name : ℕ) → List Row → ℕ

@@ -19,14 +19,19 @@ abbrev pub isName : ℕ → ℤ → Bool
 isName name (pos n) = eqb n name
 isName name (negsuc n) = false
 
--- a whole row stands in front, and it has this name
-abbrev pub leads : ℕ → List ℤ → Bool
-leads name rows = leb rowWidth (length rows) && isName name (getD rows nameColumn (pos 0))
+-- the row in front has this name
+abbrev pub named : ℕ → List ℤ → Bool
+named name rows = isName name (getD rows nameColumn (pos 0))
 
--- how many of the first `count` rows stand before the first one of this name: all where none has it
-unfoldable pub first : (count name : ℕ) → List ℤ → ℕ
-first zero name rows = 0
-first (suc n) name rows = cond (leads name rows) 0 (suc (first n name (drop rowWidth rows)))
+-- how many of the first `count` rows stand before the first one of which a test says yes: all where it says so of none. (Public because
+-- operations look for rows by more than their name.)
+unfoldable pub firstWhere : (test : List ℤ → Bool) (count : ℕ) → List ℤ → ℕ
+firstWhere test zero rows = 0
+firstWhere test (suc n) rows = cond (leb rowWidth (length rows) && test rows) 0 (suc (firstWhere test n (drop rowWidth rows)))
+
+-- before the first one of this name
+abbrev pub first : (count name : ℕ) → List ℤ → ℕ
+first count name rows = firstWhere (named name) count rows
 
 -- its value; 0 where none has the name
 unfoldable pub valueIn : (count name : ℕ) → List ℤ → ℤ

@@ -5,8 +5,8 @@ use native.Mathlib.Omega.{arith}
 use borrow.Author.Needs.{needs}
 use lib.ListN.{length, drop}
 use Rattle.syntax.specs.Numbers.{rowWidth}
-use Rattle.rows.specs.Look.{first}
-use Rattle.rows.proofs.Look.{is-number, its-bits, at-start, stop-at, go-on, ended}
+use Rattle.rows.specs.Look.{named, first}
+use Rattle.rows.proofs.Look.{is-number, its-bits, row-named, row-other, at-start, stop-at, go-on, ended}
 use Rattle.rows.proofs.first.Statement.{statement}
 use Rattle.rows.proofs.first.Tie as tie
 
@@ -17,32 +17,31 @@ abbrev μ-loop : tie.MeasureT-loop
 μ-loop rows count name n wanted i₀ i = n - i
 
 holds : tie.Need-loop-holds Inv-loop μ-loop
-holds c = (omega arith, c .least .ensures, at-start (c .before .args .count) (c .before .args .name) (c .before .args .rows .now))
+holds c = (omega arith, c .least .ensures, at-start (named (c .before .args .name)) (c .before .args .count) (c .before .args .rows .now))
 
 found : tie.Need-returns Inv-loop μ-loop
 found c =
     let at = c .before .before .before in
     let a = at .before .before .args in
     let i = at .loop .i in
-    let none = stop-at (a .count) (a .name) i (a .rows .now) (omega arith) (omega arith) (is-number (search needs) (omega arith) (c .if1 .taken)) in
+    let is = row-named (a .name) i (a .rows .now) (is-number (search needs) (omega arith) (c .if1 .taken)) in
+    let none = stop-at (named (a .name)) (a .count) i (a .rows .now) (omega arith) (omega arith) is in
     omega (arith, none, at .loop .inv .2)
 
 again : tie.Need-loop-again Inv-loop μ-loop
 again c =
     let at = c .before .before .before in
     let a = at .before .before .args in
-    let i = at .loop .i in (
-      omega arith,
-      at .loop .inv .1,
-      at .loop .inv .2 ∙ go-on (a .count) (a .name) i (a .rows .now) (omega arith) (omega arith) (λ e. c .if1 .left (its-bits (a .name) (omega arith) e)),
-    )
+    let i = at .loop .i in
+    let other = row-other (a .name) i (a .rows .now) (λ e. c .if1 .left (its-bits (a .name) (omega arith) e)) in
+    (omega arith, at .loop .inv .1, at .loop .inv .2 ∙ go-on (named (a .name)) (a .count) i (a .rows .now) (omega arith) (omega arith) other)
 
 done : tie.Need-returns-2 Inv-loop μ-loop
 done c =
     let at = c .before in
     let a = at .before .before .args in
     let i = at .loop .i in
-    ended (a .count) (a .name) i (a .rows .now) (omega arith) (at .loop .inv .2)
+    ended (named (a .name)) (a .count) i (a .rows .now) (omega arith) (at .loop .inv .2)
 
 pub first-spec : {M : Type 1} → statement M
 first-spec =

@@ -9,14 +9,14 @@ use lib.ListN.{length, getD}
 use mir.Facts.{toZ-ofZ}
 use mir.Syntax.{w32}
 use Rattle.syntax.specs.Numbers.{rowWidth}
-use Rattle.rows.specs.Look.{valueColumn, first}
+use Rattle.rows.specs.Look.{valueColumn, named, first}
 use Rattle.rows.proofs.Look.{whole, value-found, value-none}
 use Rattle.rows.proofs.value.Statement.{statement}
 use Rattle.rows.proofs.value.Tie as tie
 
 -- what is found is a whole row
 inside : (count name : ℕ) (rows : List ℤ) {i : ℕ} → i ≡ first count name rows → i < count → i * rowWidth + rowWidth ≤ length rows
-inside count name rows e h = omega (arith, e, whole name count rows (omega (arith, e, h)))
+inside count name rows e h = omega (arith, e, whole (named name) count rows (omega (arith, e, h)))
 
 found : tie.Need-returns
 found c =

@@ -1,0 +1,3 @@
+pub mod Rules
+pub mod Answers
+pub mod Profiled

@@ -1,0 +1,12 @@
+pub mod Groups
+pub mod Told
+pub mod Passes
+pub mod Answers
+pub mod Examples
+pub mod Runs
+pub mod TextRead
+pub mod PackedRead
+pub mod Cases
+pub mod TextOnly
+pub mod PackedOnly
+pub mod Exact

@@ -1,2 +1,5 @@
+pub mod Short
+pub mod Begun
 pub mod Lines
 pub mod Last
+pub mod Written

@@ -3,13 +3,13 @@
 use mathlib.Core.Bool.{cond, not}
 use mathlib.Core.List.{List, [], _∷_, _++_, map}
 use Prim.Native.Nat.{ℕ, zero, suc, _+_, _*_}
-use lib.Dec.{eqb, ltb}
+use lib.Dec.{eqb}
 use lib.IntN.{ℤ, pos, negsuc}
-use lib.ListN.{length, take, drop, replicate}
+use lib.ListN.{take, drop, replicate}
 use Rattle.syntax.specs.Numbers.{rowWidth, shown}
 use Rattle.ac3.specs.declared.Answer.{Answer}
 use Rattle.ac3.specs.Promise.{Call, call, answerTo}
-use Rattle.listing.specs.Listing.{Listing, line, word, text}
+use Rattle.listing.specs.Listing.{Listing, line, word}
 
 -- a number as a listing stores it: one more; none is below -1
 abbrev pub stored : ℤ → ℕ
@@ -40,9 +40,8 @@ lastLine a = word (not (eqb (a .refusal) 0)) ++ line (map stored (lastOf a))
 abbrev pub listing : Call → Listing
 listing c = listingOf (answerTo c .0) (answerTo c .1)
 
--- ---- what the listing program prints
+-- ---- what the listing programs list: the frame at the start of their input, with room for so many rows
 
--- it lists the frame at the start of its input, with room for so many rows
 abbrev pub rowsLent : ℕ
 rowsLent = 1820
 
@@ -51,14 +50,3 @@ numbersLent = rowsLent * rowWidth
 
 abbrev pub frameCall : List ℕ → Call
 frameCall frame = call frame 0 (replicate numbersLent (pos 0))
-
-abbrev pub printed : List ℕ → List ℕ
-printed frame = text (listing (frameCall frame))
-
--- no text is longer: eleven bytes for each number of a row, ten digits and what stands after them, and 63 for the last line
-abbrev pub mostText : ℕ
-mostText = numbersLent * 11 + 63
-
--- what is written into so much room: the whole text, or nothing if a longest one would not fit
-abbrev pub written : (frame out : List ℕ) → List ℕ
-written frame out = cond (ltb (length out) mostText) [] (printed frame)

@@ -1,8 +1,7 @@
 -- `lister::put_last` meets its contract: the word, and then the line of the numbers, none of which a cast changes. Assumes nothing.
-use mathlib.Core.Bool.{true, false}
-use mathlib.Core.List.{List, [], _∷_}
-use mathlib.Core.Path.{_≡_, refl, ap, _∙_}
-use Prim.Native.Nat.{ℕ, _<_}
+use mathlib.Core.List.{List, [], _∷_, map}
+use mathlib.Core.Path.{_≡_, ap, _∙_}
+use Prim.Native.Nat.{ℕ, _≤_, _<_}
 use native.Mathlib.Omega.{arith}
 use borrow.Author.Needs.{needs}
 use lib.IntN.{ℤ, pos}
@@ -11,12 +10,15 @@ use mir.Syntax.{w32}
 use mir.Val.{toZ, ofZ, SFits}
 use Rattle.syntax.specs.Numbers.{shown}
 use Rattle.ac3.specs.declared.Answer.{Answer}
-use Rattle.lister.proofs.Last.{accepted, refused, ends-accepted, ends-refused, word-fits, numbers-fit, both-written}
+use Rattle.ac3.specs.RowBound.{mostRows}
+use Rattle.lister.specs.Listed.{stored}
+use Rattle.lister.proofs.Last.{accepted, refused, ends-accepted, ends-refused, both-written}
+use Rattle.lister.proofs.Short.{line-short}
 use Rattle.lister.proofs.put_last.Statement.{statement}
 use Rattle.lister.proofs.put_last.Tie as tie
 
--- a number that the code has made of a natural one
-cast : {z : ℤ} {n : ℕ} → z ≡ pos n → n < 2147483648 → toZ w32 (ofZ w32 z) ≡ pos n
+-- a count that the code has made signed
+cast : {z : ℤ} {n : ℕ} → z ≡ pos n → n ≤ mostRows → toZ w32 (ofZ w32 z) ≡ pos n
 cast e h = ap (λ z. toZ w32 (ofZ w32 z)) e ∙ toZ-pos w32 (omega arith)
 
 -- the numbers as the code has them
@@ -26,14 +28,23 @@ three a rows = toZ w32 (ofZ w32 rows) ∷ toZ w32 (a .summary .header .bytes) �
 abbrev five : Answer → (rows block : ℤ) → List ℤ
 five a rows block = toZ w32 (a .refusal) ∷ toZ w32 (ofZ w32 rows) ∷ toZ w32 (a .bit) ∷ toZ w32 (a .name) ∷ toZ w32 (ofZ w32 block) ∷ []
 
-three-are : (a : Answer) {rows : ℤ} → rows ≡ pos (a .rows) → a .rows < 2147483648 → a .summary .header .bytes < 65536 → a .bit < 65536 → three a rows ≡ accepted a
+three-are : (a : Answer) {rows : ℤ} → rows ≡ pos (a .rows) → a .rows ≤ mostRows → a .summary .header .bytes < 65536 → a .bit < 65536 → three a rows ≡ accepted a
 three-are a e h b t =
     let p = cast e h in
     let q = toZ-pos w32 {n = a .summary .header .bytes} (omega arith) in
     let r = toZ-pos w32 {n = a .bit} (omega arith) in
     λ i. p i ∷ q i ∷ r i ∷ []
 
-five-are : (a : Answer) {rows block : ℤ} → rows ≡ pos (a .rows) → a .rows < 2147483648 → a .refusal < 256 → a .bit < 65536 → a .name < 256 → block ≡ shown (a .block) → SFits w32 block → five a rows block ≡ refused a
+five-are :
+    (a : Answer) {rows block : ℤ}
+    → rows ≡ pos (a .rows)
+    → a .rows ≤ mostRows
+    → a .refusal < 256
+    → a .bit < 65536
+    → a .name < 256
+    → block ≡ shown (a .block)
+    → SFits w32 block
+    → five a rows block ≡ refused a
 five-are a {block = block} e h f b n s fits =
     let p = toZ-pos w32 {n = a .refusal} (omega arith) in
     let q = cast e h in
@@ -48,23 +59,10 @@ put-last-spec =
     (tie.spec
     (λ c κs. search needs)  -- small-requires
     (λ c. search needs)  -- cast-bit
-    (λ c κs.
-    let then = c .before .before .before in
-    let s = then .before .before .before .before .before in
-    let a = s .args .a in
-    (omega arith, omega arith, word-fits a false (accepted a) (ends-accepted a (then .if1 .taken) refl) (s .args .at) (s .pre .1)))  -- put-word-requires
+    (λ c κs. search needs)  -- put-word-requires
     (λ c. search needs)  -- cast-t14
     (λ c. search needs)  -- slice-aggregate-put-line
-    (λ c κs.
-    let bytes = c .before .before in
-    let said = bytes .before .before .before in
-    let then = said .before .before .before .before in
-    let bit = then .before .before in
-    let small = bit .before in
-    let s = small .before .before in
-    let a = s .args .a in
-    let same = three-are a (small .small .ensures) (s .pre .0) (omega (arith, bytes .struct-known3 .given)) (omega (arith, bit .struct-known .given)) in
-    numbers-fit a false (three a (small .small .result)) (ends-accepted a (then .if1 .taken) same) (s .args .at) (s .pre .1) (said .put-word .ensures .0) (said .put-word .kept .0))  -- put-line-requires
+    (λ c κs. search needs)  -- put-line-requires
     (λ c. search needs)  -- same-length
     (λ c.
     let line = c .before .before in
@@ -76,28 +74,20 @@ put-last-spec =
     let s = small .before .before in
     let a = s .args .a in
     let same = three-are a (small .small .ensures) (s .pre .0) (omega (arith, bytes .struct-known3 .given)) (omega (arith, bit .struct-known .given)) in
-    both-written a false (three a (small .small .result)) (ends-accepted a (then .if1 .taken) same) (s .args .out .now) (s .args .at) (said .put-word .ensures) (line .put-line .ensures))  -- returns
-    (λ c κs.
-    let else = c .before in
-    let s = else .before .before .before .before .before in
-    let a = s .args .a in
-    (omega arith, omega arith, word-fits a true (refused a) (ends-refused a (else .if1 .left) refl) (s .args .at) (s .pre .1)))  -- put-word-requires-2
+    let ends = ends-accepted a (then .if1 .taken) same in
+    let fit = line .put-line .ensures .1 in (
+      both-written ends (s .args .out .now) (s .args .at) (said .put-word .ensures) (line .put-line .ensures .0),
+      (
+        ends .fit fit,
+        omega (arith, said .put-word .ensures .0, line .put-line .ensures .0 .0, line-short (map stored (three a (small .small .result))) (fit .1)),
+      ),
+    ))  -- returns
+    (λ c κs. search needs)  -- put-word-requires-2
     (λ c. search needs)  -- cast-t22
     (λ c. search needs)  -- cast-t23
     (λ c κs. search needs)  -- shown-requires
     (λ c. search needs)  -- slice-aggregate-put-line-2
-    (λ c κs.
-    let shown = c .before .before in
-    let name = shown .before in
-    let number = name .before in
-    let said = number .before .before .before in
-    let else = said .before .before in
-    let bit = else .before .before in
-    let small = bit .before in
-    let s = small .before .before in
-    let a = s .args .a in
-    let same = five-are a (small .small .ensures) (s .pre .0) (omega (arith, number .struct-known4 .given)) (omega (arith, bit .struct-known .given)) (omega (arith, name .struct-known5 .given)) (shown .shown .ensures) (search needs) in
-    numbers-fit a true (five a (small .small .result) (shown .shown .result)) (ends-refused a (else .if1 .left) same) (s .args .at) (s .pre .1) (said .put-word2 .ensures .0) (said .put-word2 .kept .0))  -- put-line-requires-2
+    (λ c κs. search needs)  -- put-line-requires-2
     (λ c. search needs)  -- same-length-2
     (λ c.
     let line = c .before .before in
@@ -111,4 +101,11 @@ put-last-spec =
     let s = small .before .before in
     let a = s .args .a in
     let same = five-are a (small .small .ensures) (s .pre .0) (omega (arith, number .struct-known4 .given)) (omega (arith, bit .struct-known .given)) (omega (arith, name .struct-known5 .given)) (shown .shown .ensures) (search needs) in
-    both-written a true (five a (small .small .result) (shown .shown .result)) (ends-refused a (else .if1 .left) same) (s .args .out .now) (s .args .at) (said .put-word2 .ensures) (line .put-line2 .ensures)))  -- returns-2
+    let ends = ends-refused a (else .if1 .left) same in
+    let fit = line .put-line2 .ensures .1 in (
+      both-written ends (s .args .out .now) (s .args .at) (said .put-word2 .ensures) (line .put-line2 .ensures .0),
+      (
+        ends .fit fit,
+        omega (arith, said .put-word2 .ensures .0, line .put-line2 .ensures .0 .0, line-short (map stored (five a (small .small .result) (shown .shown .result))) (fit .1)),
+      ),
+    )))  -- returns-2

@@ -58,12 +58,17 @@ few frame = omega (arith, kept-within c _ _ (promised c refl) .rows, long)
     long : length (c .room) ≡ numbersLent
     long = length-replicate numbersLent (pos 0)
 
-pub printed : (frame out : List ℕ) {room : List ℤ} {size : ℕ} {left : List ℕ} → room ≡ replicate numbersLent (pos 0) → Written (call frame 0 room) out size left → Printed frame out size left
-printed frame out {room} {size} {left} same w =
+pub printed :
+    (frame out : List ℕ) {room : List ℤ} {size : ℕ} {left : List ℕ}
+    → mostText rowsLent ≤ length out
+    → room ≡ replicate numbersLent (pos 0)
+    → Written (call frame 0 room) out size left
+    → Printed frame size left
+printed frame out {room} {size} {left} h same w =
     let all : Written (frameCall frame) out size left = rw same at w in
-    let enough : mostText rowsLent ≤ length out → roomNeeded (frameCall frame) ≤ length out = λ h. omega (arith, few frame) in
+    let enough : roomNeeded (frameCall frame) ≤ length out = omega (arith, few frame) in
     record {
-      bytes = λ h. ap (take size) (all .bytes) ∙ take-at (written (frameCall frame) out) (drop size out) size (sym (all .counted)) ∙ whole (frameCall frame) out (enough h);
-      valid = λ h. all .valid (enough h);
+      bytes = ap (take size) (all .bytes) ∙ take-at (written (frameCall frame) out) (drop size out) size (sym (all .counted)) ∙ whole (frameCall frame) out enough;
+      valid = all .valid enough;
       within = omega (arith, all .counted, ap length (all .bytes), length-append (written (frameCall frame) out) (drop size out));
     }

@@ -8,7 +8,7 @@ use lib.Dec.{ltb}
 use lib.ListN.{length, take, drop}
 use Rattle.ac3.specs.Promise.{Call, answerTo}
 use Rattle.listing.specs.Listing.{Valid, text}
-use Rattle.lister.specs.Listed.{listing, rowsLent, frameCall}
+use Rattle.lister.specs.Listed.{listing, frameCall}
 
 -- no text of so many rows is longer: eleven bytes for each number, ten digits and what stands after them, and 63 for the last line
 abbrev pub mostText : ℕ → ℕ
@@ -28,8 +28,8 @@ pub record Written (c : Call) (out : List ℕ) (size : ℕ) (left : List ℕ) : 
   pub within : size ≤ length out
   pub valid : roomNeeded c ≤ length out → Valid (listing c)
 
--- the frame at the start of some bytes, with the room that the programs lend: in output enough for any it is the listing's text
-pub record Printed (frame out : List ℕ) (size : ℕ) (left : List ℕ) : Type 0 where
-  pub bytes : mostText rowsLent ≤ length out → take size left ≡ text (listing (frameCall frame))
-  pub valid : mostText rowsLent ≤ length out → Valid (listing (frameCall frame))
+-- the frame at the start of some bytes, with the room that the programs lend: all that was written is the listing's text
+pub record Printed (frame : List ℕ) (size : ℕ) (left : List ℕ) : Type 0 where
+  pub bytes : take size left ≡ text (listing (frameCall frame))
+  pub valid : Valid (listing (frameCall frame))
   pub within : size ≤ length left

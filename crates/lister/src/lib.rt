@@ -16,7 +16,7 @@ ghost use Rattle.syntax.specs.Numbers.{rowWidth};
 ghost use Rattle.ac3.specs.Promise.{call, answerTo};
 ghost use Rattle.ac3.specs.RowBound.{mostRows};
 ghost use Rattle.listing.specs.Listing.{Each, Line, Valid, line, lastCount, joined, text};
-ghost use Rattle.lister.specs.Listed.{stored, rowsIn, lastOf, lastLine, listingOf, numbersLent};
+ghost use Rattle.lister.specs.Listed.{stored, rowsIn, lastOf, lastLine, listingOf, rowsLent, numbersLent};
 ghost use Rattle.lister.specs.Written.{mostText, Written, Printed};
 
 // The most bytes of a number with what stands after it, of a row's line and of the last line.
@@ -131,9 +131,11 @@ fn no_rows() -> [i32; NUMBERS]
     [0i32; NUMBERS]
 }
 
-// The listing of the frame at the start of some bytes, as the programs write it.
+// The listing of the frame at the start of some bytes, as the programs write it. (By the requires a program has to show that its buffer is
+// large enough: then the bytes that it writes are the text.)
 pub fn listed(frame: &[u8], out: &mut [u8]) -> usize
-    ensures { λ r. ⌜ Printed (now (frame .entry)) (now (out .entry)) r (now (out .exit)) ⌝ }
+    requires { ⌜ mostText rowsLent ≤ length (now out) ⌝ }
+    ensures { λ r. ⌜ Printed (now (frame .entry)) r (now (out .exit)) ⌝ }
 {
     let mut rows = no_rows();
     text(frame, 0, &mut rows, out)

@@ -16,5 +16,5 @@ listed-spec =
     (λ c.
     let text = c .before .before .before in
     let rows = text .before .before .before in
-    let a = rows .before .before .before .args in
-    printed (a .frame .now) (a .out .now) (rows .no-rows .ensures .1) (text .text .ensures .1)))  -- returns
+    let s = rows .before .before .before in
+    printed (s .args .frame .now) (s .args .out .now) (s .pre) (rows .no-rows .ensures .1) (text .text .ensures .1)))  -- returns

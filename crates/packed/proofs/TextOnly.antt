@@ -2,7 +2,7 @@
 use mathlib.Core.Path.{_≡_, refl, ap, sym, _∙_}
 use mathlib.Core.Bool.{Bool, true, false}
 use mathlib.Core.List.{List, [], _∷_, _++_, append-assoc, append-nil}
-use Prim.Native.Nat.{ℕ, _+_, _-_, _*_, _≤_, _<_, min}
+use Prim.Native.Nat.{ℕ, _+_, _-_, _*_, _≤_, _<_}
 use native.Mathlib.Numerals.{add-one}
 use native.Mathlib.Omega.{arith}
 use borrow.Author.Tests.{eqb-true, eqb-false, ltb-true, ltb-false, eq-eqb, ne-eqb}
@@ -20,7 +20,7 @@ use Rattle.packed.specs.Machine.{after}
 use Rattle.listing.specs.Number.{decimal, signed, separator, letters}
 use Rattle.listing.specs.Listing.{Listing, Valid, Each, line, joined, word, text, lastCount}
 use Rattle.listing.specs.Listing as listing
-use Rattle.packed.specs.Text.{next, digit, grown, rowOn, lastOn, wordOn, lettered, step, verdict}
+use Rattle.packed.specs.Text.{next, digit, grown, rowOn, lastOn, lettered, step, verdict}
 use Rattle.packed.specs.Exact.{TextOnly}
 use Rattle.listing.proofs.Decimals.{decimal-small, decimal-large, signed-none, signed-some}
 use Rattle.packed.proofs.Cases.{by-test, each-snoc, joined-snoc, spaced, spaced-snoc, line-snoc}
@@ -148,7 +148,8 @@ module _ {before : List ℕ} {total left : ℕ} {p : Part} {bytes : List ℕ} (b
 pub record Rows (count : ℕ) : Type 0 where
   pub rows : List (List ℕ)
   pub good : Each (listing.Line 9) rows
-  pub counts : count ≡ min (length rows) 2147483648
+  pub counts : count ≡ length rows + 1
+  pub few : count ≤ 2147483648
 
 -- the word's letters from one to another
 abbrev first : Bool → ℕ
@@ -163,10 +164,27 @@ abbrev Seen : Text → List ℕ → Type 0
 Seen (Line n) bytes = (r : Rows n) × (bytes ≡ joined line (r .rows))
 Seen (Row n left p) bytes = (r : Rows n) × Begun (joined line (r .rows)) 9 left p bytes
 Seen (Word n at) bytes =
-    (r : Rows n) × (k : Bool) × (n < 2147483648) × (first k < at) × (at < past k) × (bytes ≡ joined line (r .rows) ++ slice (first k) at letters)
-Seen (Last n left p) bytes = (r : Rows n) × (k : Bool) × (n < 2147483648) × Begun (joined line (r .rows) ++ word k) (lastCount k) left p bytes
+    (r : Rows n) × (k : Bool) × (first k < at) × (at < past k) × (bytes ≡ joined line (r .rows) ++ slice (first k) at letters)
+Seen (Last n left p) bytes = (r : Rows n) × (k : Bool) × Begun (joined line (r .rows) ++ word k) (lastCount k) left p bytes
 Seen (End n) bytes = (l : Listing) × Valid l × (text l ≡ bytes)
 Seen (Stop n) bytes = n ≡ 0 → ⊥
+
+-- the line feed of a row
+pub row-ended :
+    {n left : ℕ} {p : Part} {bytes : List ℕ} (b : ℕ) (r : Rows n) (i : Begun (joined line (r .rows)) 9 left p bytes) {v : ℕ}
+    → v ≤ 2147483648
+    → partial p ≡ signed v
+    → b ≡ separator left
+    → left ≡ 0
+    → (rows : List (List ℕ)) × Each (listing.Line 9) rows × (length rows ≡ n) × (bytes ++ (b ∷ []) ≡ joined line rows)
+row-ended b r i {v} s e f z =
+    let d = begun-end b i s e f z in
+    let row = i .vs ++ (v ∷ []) in (
+      r .rows ++ (row ∷ []),
+      each-snoc (listing.Line 9) (r .rows) (r .good) (d .0),
+      omega (arith, r .counts, length-append (r .rows) (row ∷ [])),
+      d .1 ∙ sym (joined-snoc line (r .rows) row),
+    )
 
 row-seen :
     {n left : ℕ} {p : Part} {bytes : List ℕ} (b : ℕ) (r : Rows n) (i : Begun (joined line (r .rows)) 9 left p bytes) (x : Next)
@@ -176,38 +194,30 @@ row-seen b r i (More q) g = (r, begun-more b i (g .0) (g .1))
 row-seen {n} {left} {p} {bytes} b r i (Ended v) g =
     by-test (λ (s : Text). Seen s (bytes ++ (b ∷ []))) (eqb left 0)
     (λ e.
-    let d = begun-end b i (g .0) (g .1) (g .2) (eqb-true left 0 e) in (
-      record {
-        rows = r .rows ++ ((i .vs ++ (v ∷ [])) ∷ []);
-        good = each-snoc (listing.Line 9) (r .rows) (r .good) (d .0);
-        counts = omega (arith, r .counts, length-append (r .rows) ((i .vs ++ (v ∷ [])) ∷ []));
-      },
-      d .1 ∙ sym (joined-snoc line (r .rows) (i .vs ++ (v ∷ []))),
-    ))
+    let d = row-ended b r i (g .0) (g .1) (g .2) (eqb-true left 0 e) in
+    by-test (λ (s : Text). Seen s (bytes ++ (b ∷ []))) (ltb n 2147483648)
+    (λ f. (record { rows = d .0; good = d .1; counts = omega (arith, d .2); few = omega (arith, ltb-true n 2147483648 f) }, d .3))
+    (λ _ y. omega (arith, y)))
     (λ e. (r, begun-next b i (g .0) (g .1) (g .2) (eqb-false left 0 e)))
 row-seen b r i (Wrong e) g = g
 
 last-seen :
-    {n left : ℕ} {p : Part} {bytes : List ℕ} (b : ℕ) (r : Rows n) (k : Bool) (few : n < 2147483648) (i : Begun (joined line (r .rows) ++ word k) (lastCount k) left p bytes) (x : Next)
+    {n left : ℕ} {p : Part} {bytes : List ℕ} (b : ℕ) (r : Rows n) (k : Bool) (i : Begun (joined line (r .rows) ++ word k) (lastCount k) left p bytes) (x : Next)
     → Good p (separator left) b x
     → Seen (lastOn n left x) (bytes ++ (b ∷ []))
-last-seen b r k few i (More q) g = (r, k, few, begun-more b i (g .0) (g .1))
-last-seen {n} {left} {p} {bytes} b r k few i (Ended v) g =
+last-seen b r k i (More q) g = (r, k, begun-more b i (g .0) (g .1))
+last-seen {n} {left} {p} {bytes} b r k i (Ended v) g =
     by-test (λ (s : Text). Seen s (bytes ++ (b ∷ []))) (eqb left 0)
     (λ e.
     let d = begun-end b i (g .0) (g .1) (g .2) (eqb-true left 0 e) in (
       record { rows = r .rows; refused = k; last = i .vs ++ (v ∷ []) },
-      record { rows = r .good; count = omega (arith, r .counts); last = d .0 },
+      record { rows = r .good; count = omega (arith, r .counts, r .few); last = d .0 },
       sym (d .1 ∙ append-assoc (joined line (r .rows)) (word k) (line (i .vs ++ (v ∷ [])))),
     ))
-    (λ e. (r, k, few, begun-next b i (g .0) (g .1) (g .2) (eqb-false left 0 e)))
-last-seen b r k few i (Wrong e) g = g
+    (λ e. (r, k, begun-next b i (g .0) (g .1) (g .2) (eqb-false left 0 e)))
+last-seen b r k i (Wrong e) g = g
 
 -- ---- the words
-
--- the rows are as many as the count says
-few-rows : {n : ℕ} (r : Rows n) → n < 2147483648 → length (r .rows) ≡ n
-few-rows r h = omega (arith, r .counts)
 
 slice-more : (f t : ℕ) → f ≤ t → t < 14 → slice f (t + 1) letters ≡ slice f t letters ++ (getD letters t 0 ∷ [])
 slice-more f t l h =
@@ -219,41 +229,37 @@ word-begins :
     → bytes ≡ joined line (r .rows)
     → b ∷ [] ≡ slice (first k) (first k + 1) letters
     → first k + 1 < past k
-    → Seen (wordOn n (first k + 1)) (bytes ++ (b ∷ []))
-word-begins {n} {bytes} b k r e w h =
-    by-test (λ (s : Text). Seen s (bytes ++ (b ∷ []))) (ltb n 2147483648)
-    (λ t. (r, k, ltb-true n 2147483648 t, omega arith, h, rw (e, w) refl))
-    (λ _ y. omega (arith, y))
+    → Seen (Word n (first k + 1)) (bytes ++ (b ∷ []))
+word-begins b k r e w h = (r, k, omega arith, h, rw (e, w) refl)
 
 letter-seen :
     {n at : ℕ} {bytes : List ℕ} (b : ℕ) (r : Rows n) (k : Bool)
-    → n < 2147483648
     → first k < at
     → at < past k
     → bytes ≡ joined line (r .rows) ++ slice (first k) at letters
     → b ≡ getD letters at 0
     → Seen (lettered n at) (bytes ++ (b ∷ []))
-letter-seen {n} {at} {bytes} b r false few l h e c =
+letter-seen {n} {at} {bytes} b r false l h e c =
     let m : bytes ++ (b ∷ []) ≡ joined line (r .rows) ++ slice 0 (at + 1) letters =
     rw (e, c, slice-more 0 at (omega arith) (omega arith)) (append-assoc (joined line (r .rows)) (slice 0 at letters) (getD letters at 0 ∷ [])) in
     by-test (λ (s : Text). Seen s (bytes ++ (b ∷ []))) (eqb at 5)
-    (λ t. (r, false, few, begun-none 3 2 refl (m ∙ ap (λ (j : ℕ). joined line (r .rows) ++ slice 0 (j + 1) letters) (eqb-true at 5 t))))
+    (λ t. (r, false, begun-none 3 2 refl (m ∙ ap (λ (j : ℕ). joined line (r .rows) ++ slice 0 (j + 1) letters) (eqb-true at 5 t))))
     (λ t.
     let z = eqb-false at 5 t in
     by-test (λ (s : Text). Seen s (bytes ++ (b ∷ []))) (ltb at 13)
-    (λ u. (r, false, few, omega arith, omega arith, m))
+    (λ u. (r, false, omega arith, omega arith, m))
     (λ u. absurd (omega (arith, ltb-false at 13 u))))
-letter-seen {n} {at} {bytes} b r true few l h e c =
+letter-seen {n} {at} {bytes} b r true l h e c =
     let m : bytes ++ (b ∷ []) ≡ joined line (r .rows) ++ slice 6 (at + 1) letters =
     rw (e, c, slice-more 6 at (omega arith) (omega arith)) (append-assoc (joined line (r .rows)) (slice 6 at letters) (getD letters at 0 ∷ [])) in
     by-test (λ (s : Text). Seen s (bytes ++ (b ∷ []))) (eqb at 5)
     (λ t. absurd (omega (arith, eqb-true at 5 t)))
     (λ t.
     by-test (λ (s : Text). Seen s (bytes ++ (b ∷ []))) (ltb at 13)
-    (λ u. (r, true, few, omega arith, omega (arith, ltb-true at 13 u), m))
+    (λ u. (r, true, omega arith, omega (arith, ltb-true at 13 u), m))
     (λ u.
     let z : at ≡ 13 = omega (arith, ltb-false at 13 u) in
-    (r, true, few, begun-none 5 4 refl (m ∙ ap (λ (j : ℕ). joined line (r .rows) ++ slice 6 (j + 1) letters) z))))
+    (r, true, begun-none 5 4 refl (m ∙ ap (λ (j : ℕ). joined line (r .rows) ++ slice 6 (j + 1) letters) z))))
 
 -- ---- every byte
 
@@ -268,10 +274,10 @@ step-seen (Line n) bytes b w =
 step-seen (Row n left p) bytes b w = row-seen b (w .0) (w .1) (next p (separator left) b) (next-good p (separator left) b (w .1 .ok))
 step-seen (Word n at) bytes b w =
     by-test (λ (s : Text). Seen s (bytes ++ (b ∷ []))) (eqb b (getD letters at 0))
-    (λ e. letter-seen b (w .0) (w .1) (w .2) (w .3) (w .4) (w .5) (eqb-true b (getD letters at 0) e))
+    (λ e. letter-seen b (w .0) (w .1) (w .2) (w .3) (w .4) (eqb-true b (getD letters at 0) e))
     (λ _ y. omega (arith, y))
 step-seen (Last n left p) bytes b w =
-    last-seen b (w .0) (w .1) (w .2) (w .3) (next p (separator left) b) (next-good p (separator left) b (w .3 .ok))
+    last-seen b (w .0) (w .1) (w .2) (next p (separator left) b) (next-good p (separator left) b (w .2 .ok))
 step-seen (End n) bytes b w = λ y. omega (arith, y)
 step-seen (Stop n) bytes b w = w
 
@@ -290,4 +296,4 @@ read-whole (Stop n) bytes w e = absurd (w e)
 
 pub text-only : TextOnly
 text-only bytes e =
-    read-whole (after step (Line 0) bytes) bytes (all-seen (Line 0) [] bytes (record { rows = []; good = tt; counts = refl }, refl)) e
+    read-whole (after step (Line 1) bytes) bytes (all-seen (Line 1) [] bytes (record { rows = []; good = tt; counts = refl; few = lit≤ tt }, refl)) e

@@ -3,7 +3,7 @@ use mathlib.Core.Path.{_≡_, refl, ap, sym, _∙_}
 use mathlib.Core.Bool.{Bool, true, false, cond}
 use mathlib.Core.List.{List, [], _∷_, _++_, append-assoc}
 use Prim.Native.Nat.{ℕ, zero, suc, _+_, _-_, _*_, _/_, _%_, _^_, _≤_, _<_}
-use native.Mathlib.Nat.{add-zero, zero-add, div-lt-iff-lt-mul, div-le-self, div-add-mod', mod-lt, le-div-iff-mul-le}
+use native.Mathlib.Nat.{add-zero, div-lt-iff-lt-mul, div-le-self, div-add-mod', mod-lt, le-div-iff-mul-le}
 use native.Mathlib.Omega.{arith}
 use borrow.Author.Tests.{eq-eqb, ne-eqb, lt-ltb, le-ltb, ltb-true, ltb-false}
 use lib.Dec.{lit<, ltb, eqb}
@@ -18,7 +18,7 @@ use Rattle.packed.specs.Machine.{after, told}
 use Rattle.listing.specs.Number.{groups, decimal, signed, separator}
 use Rattle.listing.specs.Listing.{Listing, Valid, Each, line, joined, word, text, grouped, kind, lastCount}
 use Rattle.listing.specs.Listing as listing
-use Rattle.packed.specs.Text.{next, counted, rowOn, lastOn, step, ended, yields, tell, verdict, count}
+use Rattle.packed.specs.Text.{next, rowEnd, rowOn, lastOn, step, ended, yields, tell, verdict, count}
 use Rattle.packed.specs.Exact.{TextRead}
 use Rattle.listing.proofs.Decimals.{decimal-small, decimal-large, signed-none, signed-some}
 use Rattle.packed.proofs.Runs.{Goes, _then_, byte, stay}
@@ -204,13 +204,13 @@ line-begins left [] e h = absurd (omega (arith, e))
 line-begins left (v ∷ []) e h = begins-append (signed v) (10 ∷ []) (signed-begins v (h .0))
 line-begins left (v ∷ w ∷ ws) e h = begins-append (signed v) (32 ∷ line (w ∷ ws)) (signed-begins v (h .0))
 
-a-row : (rows : ℕ) (vs : List ℕ) → listing.Line 9 vs → Goes step yields (Line rows) (line vs) (Line (counted rows)) vs
+a-row : (rows : ℕ) (vs : List ℕ) → listing.Line 9 vs → Goes step yields (Line rows) (line vs) (rowEnd rows) vs
 a-row rows vs h =
     let b = line-begins 8 vs (h .0) (h .1) in
     rw (b .whole)
     (row-begins rows (b .head) (b .tail) (b .low)
     (rw (b .whole) at
-    (a-line (Row rows) (rowOn rows) (Line (counted rows)) (λ left p c. refl) (λ left p c. refl) (λ left p. refl) (λ v. refl) (row-goes rows) 8 vs
+    (a-line (Row rows) (rowOn rows) (rowEnd rows) (λ left p c. refl) (λ left p c. refl) (λ left p. refl) (λ v. refl) (row-goes rows) 8 vs
     (h .0)
     (h .1))))
 
@@ -218,21 +218,23 @@ a-row rows vs h =
 abbrev flat : List (List ℕ) → List ℕ
 flat rows = joined (λ r. r) rows
 
-all-rows :
+pub one-more : {n : ℕ} → n < 2147483648 → rowEnd n ≡ Line (n + 1)
+one-more {n} h = simp (lt-ltb n 2147483648 h)
+
+pub all-rows :
     (n : ℕ) (rows : List (List ℕ))
     → Each (listing.Line 9) rows
-    → n + length rows < 2147483648
+    → n + length rows ≤ 2147483648
     → Goes step yields (Line n) (joined line rows) (Line (n + length rows)) (flat rows)
 all-rows n [] v h = rw add-zero (stay step yields (Line n))
 all-rows n (r ∷ rows) v h =
-    let c : counted n ≡ n + 1 = omega arith in
     let e : n + 1 + length rows ≡ n + suc (length rows) = omega arith in
-    _then_ step yields (rw c at (a-row n r (v .0))) (rw e at (all-rows (n + 1) rows (v .1) (omega arith)))
+    _then_ step yields (rw (one-more {n = n} (omega arith)) at (a-row n r (v .0))) (rw e at (all-rows (n + 1) rows (v .1) (omega arith)))
 
 -- the word
-a-word : (n : ℕ) (k : Bool) → n < 2147483648 → Goes step yields (Line n) (word k) (Last n (lastCount k - 1) Fresh) (kind k ∷ [])
-a-word n false h = record { ends = simp (lt-ltb n 2147483648 h); tells = simp (lt-ltb n 2147483648 h) }
-a-word n true h = record { ends = simp (lt-ltb n 2147483648 h); tells = simp (lt-ltb n 2147483648 h) }
+a-word : (n : ℕ) (k : Bool) → Goes step yields (Line n) (word k) (Last n (lastCount k - 1) Fresh) (kind k ∷ [])
+a-word n false = record { ends = refl; tells = refl }
+a-word n true = record { ends = refl; tells = refl }
 
 a-last : (n : ℕ) (k : Bool) (vs : List ℕ) → listing.Line (lastCount k) vs → Goes step yields (Last n (lastCount k - 1) Fresh) (line vs) (End n) vs
 a-last n false vs h = a-line (Last n) (lastOn n) (End n) (λ left p c. refl) (λ left p c. refl) (λ left p. refl) (λ v. refl) (last-goes n) 2 vs (h .0) (h .1)
@@ -252,16 +254,17 @@ told-groups : (s : Text) (bytes : List ℕ) → told step tell s bytes ≡ group
 told-groups s [] = refl
 told-groups s (b ∷ bytes) = rw (told-groups (step s b) bytes) (sym (grouped-append (yields s b) (told step yields (step s b) bytes)))
 
-whole : (l : Listing) → Valid l → Goes step yields (Line 0) (text l) (End (length (l .rows))) (flat (l .rows) ++ (kind (l .refused) ∷ l .last))
+whole :
+    (l : Listing) → Valid l → Goes step yields (Line 1) (text l) (End (1 + length (l .rows))) (flat (l .rows) ++ (kind (l .refused) ∷ l .last))
 whole l v =
-    _then_ step yields (rw (zero-add (length (l .rows))) at (all-rows 0 (l .rows) (v .rows) (omega (arith, v .count))))
-    (_then_ step yields (a-word (length (l .rows)) (l .refused) (v .count)) (a-last (length (l .rows)) (l .refused) (l .last) (v .last)))
+    let n = 1 + length (l .rows) in
+    _then_ step yields (all-rows 1 (l .rows) (v .rows) (omega (arith, v .count)))
+    (_then_ step yields (a-word n (l .refused)) (a-last n (l .refused) (l .last) (v .last)))
 
 pub text-read : TextRead
 text-read l v =
     let g = whole l v in
-    let n = length (l .rows) in
-    let c : counted n ≡ n + 1 = omega (arith, v .count) in (
+    let c : 1 + length (l .rows) ≡ length (l .rows) + 1 = omega arith in (
       ap verdict (g .ends),
-      rw (told-groups (Line 0) (text l), g .ends, g .tells, grouped-append (flat (l .rows)) (kind (l .refused) ∷ l .last), grouped-rows (l .rows), c),
+      rw (told-groups (Line 1) (text l), g .ends, g .tells, grouped-append (flat (l .rows)) (kind (l .refused) ∷ l .last), grouped-rows (l .rows), c),
     )

@@ -49,7 +49,7 @@ OnePacked = (l m : Listing) → Valid l → Valid m → (text l ≡ text m → p
 -- ---- a byte that is refused decides: whatever follows, the answer stays, so no listing's text and no packed form begins so
 
 abbrev pub TextStays : Type 0
-TextStays = (bytes rest : List ℕ) (n : ℕ) → after Text.step (Line 0) bytes ≡ Stop n → textVerdict (bytes ++ rest) ≡ n
+TextStays = (bytes rest : List ℕ) (n : ℕ) → after Text.step (Line 1) bytes ≡ Stop n → textVerdict (bytes ++ rest) ≡ n
 
 abbrev pub PackedStays : Type 0
 PackedStays = (bytes rest : List ℕ) (n : ℕ) → after Packed.step (At Count 0 0) bytes ≡ Halt n → packedVerdict (bytes ++ rest) ≡ n

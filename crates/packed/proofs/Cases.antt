@@ -1,14 +1,23 @@
 -- A choice by its test; lists by their last element. Assumes nothing.
 use mathlib.Core.Path.{_≡_, refl, ap, sym, _∙_}
-use mathlib.Core.Bool.{Bool, true, false, cond}
+use mathlib.Core.Bool.{Bool, true, false, cond, not, _&&_}
 use mathlib.Core.List.{List, [], _∷_, _++_, append-assoc, append-nil}
 use Prim.Native.Nat.{ℕ}
+use lib.Dec.{T, eqb}
 use Rattle.listing.specs.Number.{signed}
 use Rattle.listing.specs.Listing.{Each, line, joined}
 
 pub by-test : {A : Type 0} (P : A → Type 0) (t : Bool) {a b : A} → (t ≡ true → P a) → (t ≡ false → P b) → P (cond t a b)
 by-test P true f g = f refl
 by-test P false f g = g refl
+
+-- a reader's state that is a refusal's tells neither that all was read nor that the input ends
+pub record Refused (n : ℕ) : Type 0 where
+  pub refused : ¬ (n ≡ 0)
+  pub stopped : ¬ (n ≡ 43)
+
+pub refuses : {n : ℕ} → T (not (eqb n 0) && not (eqb n 43)) → Refused n
+refuses h = record { refused = λ e. rw e at h; stopped = λ e. rw e at h }
 
 pub each-snoc : {A : Type 0} (P : A → Type 0) (xs : List A) {x : A} → Each P xs → P x → Each P (xs ++ (x ∷ []))
 each-snoc P [] h k = (k, tt)

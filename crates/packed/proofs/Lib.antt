@@ -10,3 +10,4 @@ pub mod Cases
 pub mod TextOnly
 pub mod PackedOnly
 pub mod Exact
+pub mod Verdicts

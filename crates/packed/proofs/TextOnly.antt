@@ -23,7 +23,7 @@ use Rattle.listing.specs.Listing as listing
 use Rattle.packed.specs.Text.{next, digit, grown, rowOn, lastOn, lettered, step, verdict}
 use Rattle.packed.specs.Exact.{TextOnly}
 use Rattle.listing.proofs.Decimals.{decimal-small, decimal-large, signed-none, signed-some}
-use Rattle.packed.proofs.Cases.{by-test, each-snoc, joined-snoc, spaced, spaced-snoc, line-snoc}
+use Rattle.packed.proofs.Cases.{Refused, refuses, by-test, each-snoc, joined-snoc, spaced, spaced-snoc, line-snoc}
 
 -- ---- a number
 
@@ -43,12 +43,12 @@ Ok (Open n) = (1 ≤ n) × (n < 2147483648)
 abbrev Good : Part → ℕ → ℕ → Next → Type 0
 Good p s b (More q) = Ok q × (partial p ++ (b ∷ []) ≡ partial q)
 Good p s b (Ended v) = (v ≤ 2147483648) × (partial p ≡ signed v) × (b ≡ s)
-Good p s b (Wrong n) = n ≡ 0 → ⊥
+Good p s b (Wrong n) = Refused n
 
 good-digit : (p : Part) (s b : ℕ) (n : Next) → (48 ≤ b → b ≤ 57 → Good p s b n) → Good p s b (digit b n)
 good-digit p s b n k =
-    by-test (Good p s b) (ltb b 48) (λ _ y. omega (arith, y))
-    (λ e. by-test (Good p s b) (ltb 57 b) (λ _ y. omega (arith, y)) (λ f. k (ltb-false b 48 e) (ltb-false 57 b f)))
+    by-test (Good p s b) (ltb b 48) (λ _. refuses tt)
+    (λ e. by-test (Good p s b) (ltb 57 b) (λ _. refuses tt) (λ f. k (ltb-false b 48 e) (ltb-false 57 b f)))
 
 first-digit : (b : ℕ) → 48 ≤ b → b ≤ 57 → b ∷ [] ≡ decimal (b - 48)
 first-digit b l h =
@@ -70,9 +70,9 @@ next-good Fresh s b o =
     (λ z. good-digit Fresh s b (More (Open (b - 48))) (λ l h. let x = eqb-false b 48 z in ((omega arith, omega arith), first-digit b l h))))
 next-good Minus s b o =
     by-test (Good Minus s b) (eqb b 49) (λ e. (lit≤ tt, ap (λ (x : ℕ). 45 ∷ x ∷ []) (eqb-true b 49 e) ∙ sym (signed-none {v = 0} refl)))
-    (λ _ y. omega (arith, y))
+    (λ _. refuses tt)
 next-good (Closed v) s b o =
-    by-test (Good (Closed v) s b) (eqb b s) (λ e. (omega (arith, o), refl, eqb-true b s e)) (λ _ y. omega (arith, y))
+    by-test (Good (Closed v) s b) (eqb b s) (λ e. (omega (arith, o), refl, eqb-true b s e)) (λ _. refuses tt)
 next-good (Open n) s b o =
     let x : n + 1 - 1 ≡ n = omega arith in
     by-test (Good (Open n) s b) (eqb b s)
@@ -82,7 +82,7 @@ next-good (Open n) s b o =
     (λ l h.
     by-test (Good (Open n) s b) (ltb (n * 10 + (b - 48)) 2147483648)
     (λ e. ((omega (arith, o), ltb-true (n * 10 + (b - 48)) 2147483648 e), next-digit n b (o .0) (o .1) l h))
-    (λ _ y. omega (arith, y))))
+    (λ _. refuses tt)))
 
 -- ---- a line: behind `before` stand whole numbers, and what was read of one that `left` others follow, of `total` in all
 
@@ -167,7 +167,7 @@ Seen (Word n at) bytes =
     (r : Rows n) × (k : Bool) × (first k < at) × (at < past k) × (bytes ≡ joined line (r .rows) ++ slice (first k) at letters)
 Seen (Last n left p) bytes = (r : Rows n) × (k : Bool) × Begun (joined line (r .rows) ++ word k) (lastCount k) left p bytes
 Seen (End n) bytes = (l : Listing) × Valid l × (text l ≡ bytes)
-Seen (Stop n) bytes = n ≡ 0 → ⊥
+Seen (Stop n) bytes = Refused n
 
 -- the line feed of a row
 pub row-ended :
@@ -197,7 +197,7 @@ row-seen {n} {left} {p} {bytes} b r i (Ended v) g =
     let d = row-ended b r i (g .0) (g .1) (g .2) (eqb-true left 0 e) in
     by-test (λ (s : Text). Seen s (bytes ++ (b ∷ []))) (ltb n 2147483648)
     (λ f. (record { rows = d .0; good = d .1; counts = omega (arith, d .2); few = omega (arith, ltb-true n 2147483648 f) }, d .3))
-    (λ _ y. omega (arith, y)))
+    (λ _. refuses tt))
     (λ e. (r, begun-next b i (g .0) (g .1) (g .2) (eqb-false left 0 e)))
 row-seen b r i (Wrong e) g = g
 
@@ -275,10 +275,10 @@ step-seen (Row n left p) bytes b w = row-seen b (w .0) (w .1) (next p (separator
 step-seen (Word n at) bytes b w =
     by-test (λ (s : Text). Seen s (bytes ++ (b ∷ []))) (eqb b (getD letters at 0))
     (λ e. letter-seen b (w .0) (w .1) (w .2) (w .3) (w .4) (eqb-true b (getD letters at 0) e))
-    (λ _ y. omega (arith, y))
+    (λ _. refuses tt)
 step-seen (Last n left p) bytes b w =
     last-seen b (w .0) (w .1) (w .2) (next p (separator left) b) (next-good p (separator left) b (w .2 .ok))
-step-seen (End n) bytes b w = λ y. omega (arith, y)
+step-seen (End n) bytes b w = refuses tt
 step-seen (Stop n) bytes b w = w
 
 all-seen : (s : Text) (before bytes : List ℕ) → Seen s before → Seen (after step s bytes) (before ++ bytes)
@@ -292,7 +292,7 @@ read-whole (Row n left p) bytes w e = absurd (omega (arith, e))
 read-whole (Word n at) bytes w e = absurd (omega (arith, e))
 read-whole (Last n left p) bytes w e = absurd (omega (arith, e))
 read-whole (End n) bytes w e = w
-read-whole (Stop n) bytes w e = absurd (w e)
+read-whole (Stop n) bytes w e = absurd (w .refused e)
 
 pub text-only : TextOnly
 text-only bytes e =

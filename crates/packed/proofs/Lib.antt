@@ -11,3 +11,5 @@ pub mod TextOnly
 pub mod PackedOnly
 pub mod Exact
 pub mod Verdicts
+pub mod TextBegun
+pub mod TextLarge

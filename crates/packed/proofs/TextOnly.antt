@@ -28,19 +28,19 @@ use Rattle.packed.proofs.Cases.{Refused, refuses, by-test, each-snoc, j
 -- ---- a number
 
 -- the bytes of what was read of it
-abbrev partial : Part → List ℕ
+abbrev pub partial : Part → List ℕ
 partial Fresh = []
 partial Minus = 45 ∷ []
 partial (Closed v) = signed v
 partial (Open n) = decimal n
 
-abbrev Ok : Part → Type 0
+abbrev pub Ok : Part → Type 0
 Ok Fresh = Unit
 Ok Minus = Unit
 Ok (Closed v) = v ≤ 1
 Ok (Open n) = (1 ≤ n) × (n < 2147483648)
 
-abbrev Good : Part → ℕ → ℕ → Next → Type 0
+abbrev pub Good : Part → ℕ → ℕ → Next → Type 0
 Good p s b (More q) = Ok q × (partial p ++ (b ∷ []) ≡ partial q)
 Good p s b (Ended v) = (v ≤ 2147483648) × (partial p ≡ signed v) × (b ≡ s)
 Good p s b (Wrong n) = Refused n
@@ -61,7 +61,7 @@ next-digit n b l h k m =
     let e : 48 + (b - 48) ≡ b = omega arith in
     sym (decimal-large {n = n * 10 + (b - 48)} (omega arith) (omega arith) ∙ rw (digits-div n d, digits-mod n d, e))
 
-next-good : (p : Part) (s b : ℕ) → Ok p → Good p s b (next p s b)
+pub next-good : (p : Part) (s b : ℕ) → Ok p → Good p s b (next p s b)
 next-good Fresh s b o =
     by-test (Good Fresh s b) (eqb b 45) (λ e. (tt, ap (λ (x : ℕ). x ∷ []) (eqb-true b 45 e)))
     (λ _.
@@ -96,7 +96,7 @@ pub record Begun (before : List ℕ) (total left : ℕ) (p : Part) (bytes : List
   pub ok : Ok p
   pub shown : bytes ≡ before ++ (spaced vs ++ partial p)
 
-begun-none : {before : List ℕ} {bytes : List ℕ} (total left : ℕ) → left + 1 ≡ total → bytes ≡ before → Begun before total left Fresh bytes
+pub begun-none : {before : List ℕ} {bytes : List ℕ} (total left : ℕ) → left + 1 ≡ total → bytes ≡ before → Begun before total left Fresh bytes
 begun-none {before} total left e h =
     record { vs = []; small = tt; sum = omega (arith, e); ok = tt; shown = h ∙ sym (append-nil before) }
 
@@ -152,15 +152,15 @@ pub record Rows (count : ℕ) : Type 0 where
   pub few : count ≤ 2147483648
 
 -- the word's letters from one to another
-abbrev first : Bool → ℕ
+abbrev pub first : Bool → ℕ
 first false = 0
 first true = 6
 
-abbrev past : Bool → ℕ
+abbrev pub past : Bool → ℕ
 past false = 6
 past true = 14
 
-abbrev Seen : Text → List ℕ → Type 0
+abbrev pub Seen : Text → List ℕ → Type 0
 Seen (Line n) bytes = (r : Rows n) × (bytes ≡ joined line (r .rows))
 Seen (Row n left p) bytes = (r : Rows n) × Begun (joined line (r .rows)) 9 left p bytes
 Seen (Word n at) bytes =
@@ -281,7 +281,7 @@ step-seen (Last n left p) bytes b w =
 step-seen (End n) bytes b w = refuses tt
 step-seen (Stop n) bytes b w = w
 
-all-seen : (s : Text) (before bytes : List ℕ) → Seen s before → Seen (after step s bytes) (before ++ bytes)
+pub all-seen : (s : Text) (before bytes : List ℕ) → Seen s before → Seen (after step s bytes) (before ++ bytes)
 all-seen s before [] w = rw append-nil w
 all-seen s before (b ∷ bytes) w =
     rw (append-assoc before (b ∷ []) bytes) at (all-seen (step s b) (before ++ (b ∷ [])) bytes (step-seen s before b w))
@@ -294,6 +294,8 @@ read-whole (Last n left p) bytes w e = absurd (omega (arith, e))
 read-whole (End n) bytes w e = w
 read-whole (Stop n) bytes w e = absurd (w .refused e)
 
+pub seen : (bytes : List ℕ) → Seen (after step (Line 1) bytes) bytes
+seen bytes = all-seen (Line 1) [] bytes (record { rows = []; good = tt; counts = refl; few = lit≤ tt }, refl)
+
 pub text-only : TextOnly
-text-only bytes e =
-    read-whole (after step (Line 1) bytes) bytes (all-seen (Line 1) [] bytes (record { rows = []; good = tt; counts = refl; few = lit≤ tt }, refl)) e
+text-only bytes e = read-whole (after step (Line 1) bytes) bytes (seen bytes) e

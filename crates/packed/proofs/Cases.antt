@@ -3,6 +3,7 @@ use mathlib.Core.Path.{_≡_, refl, ap, sym, _∙_}
 use mathlib.Core.Bool.{Bool, true, false, cond, not, _&&_}
 use mathlib.Core.List.{List, [], _∷_, _++_, append-assoc, append-nil}
 use Prim.Native.Nat.{ℕ}
+use borrow.Author.Tests.{eq-eqb}
 use lib.Dec.{T, eqb}
 use Rattle.listing.specs.Number.{signed}
 use Rattle.listing.specs.Listing.{Each, line, joined}
@@ -10,6 +11,10 @@ use Rattle.listing.specs.Listing.{Each, line, joined}
 pub by-test : {A : Type 0} (P : A → Type 0) (t : Bool) {a b : A} → (t ≡ true → P a) → (t ≡ false → P b) → P (cond t a b)
 by-test P true f g = f refl
 by-test P false f g = g refl
+
+-- two numbers that the checker tells apart
+pub differ : {n m : ℕ} → T (not (eqb n m)) → ¬ (n ≡ m)
+differ {n} {m} h e = rw (eq-eqb n m e) at h
 
 -- a reader's state that is a refusal's tells neither that all was read nor that the input ends
 pub record Refused (n : ℕ) : Type 0 where

@@ -13,3 +13,5 @@ pub mod Exact
 pub mod Verdicts
 pub mod TextBegun
 pub mod TextLarge
+pub mod Rooms
+pub mod TextRefusals

@@ -21,6 +21,10 @@ pub runs-on : {S : Type 0} (step : S → ℕ → S) (s : S) (a b : List ℕ) →
 runs-on step s [] b = refl
 runs-on step s (x ∷ a) b = runs-on step (step s x) a b
 
+pub first-map :
+    {P Q : List ℕ → ℕ → Type 0} {bytes : List ℕ} → ((good : List ℕ) (b : ℕ) → P good b → Q good b) → First P bytes → First Q bytes
+first-map f x = record { good = x .good; next = x .next; rest = x .rest; whole = x .whole; holds = f (x .good) (x .next) (x .holds) }
+
 -- not yet refused
 abbrev Alive : ℕ → Type 0
 Alive n = (n ≡ 0) ⊎ (n ≡ 43)
@@ -61,7 +65,7 @@ module _ {S : Type 0} (step : S → ℕ → S) (verdict : S → ℕ) (start : S)
   abbrev v : List ℕ → ℕ
   v bytes = verdict (after step start bytes)
 
-  snoc : (good : List ℕ) (b : ℕ) → v (good ++ (b ∷ [])) ≡ verdict (step (after step start good) b)
+  pub snoc : (good : List ℕ) (b : ℕ) → v (good ++ (b ∷ [])) ≡ verdict (step (after step start good) b)
   snoc good b = ap verdict (runs-on step start good (b ∷ []))
 
   -- what is refused stays so

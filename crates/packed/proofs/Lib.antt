@@ -15,3 +15,5 @@ pub mod TextBegun
 pub mod TextLarge
 pub mod Rooms
 pub mod TextRefusals
+pub mod PackedBegun
+pub mod PackedRefusals

@@ -28,6 +28,18 @@ pub each-snoc : {A : Type 0} (P : A → Type 0) (xs : List A) {x : A} → Each P
 each-snoc P [] h k = (k, tt)
 each-snoc P (y ∷ xs) h k = (h .0, each-snoc P xs (h .1) k)
 
+pub each-append : {A : Type 0} (P : A → Type 0) (xs ys : List A) → Each P xs → Each P ys → Each P (xs ++ ys)
+each-append P [] ys h k = k
+each-append P (x ∷ xs) ys h k = (h .0, each-append P xs ys (h .1) k)
+
+pub each-front : {A : Type 0} (P : A → Type 0) (xs ys : List A) → Each P (xs ++ ys) → Each P xs
+each-front P [] ys h = tt
+each-front P (x ∷ xs) ys h = (h .0, each-front P xs ys (h .1))
+
+pub each-back : {A : Type 0} (P : A → Type 0) (xs ys : List A) → Each P (xs ++ ys) → Each P ys
+each-back P [] ys h = h
+each-back P (x ∷ xs) ys h = each-back P xs ys (h .1)
+
 pub joined-snoc : (f : List ℕ → List ℕ) (xs : List (List ℕ)) (x : List ℕ) → joined f (xs ++ (x ∷ [])) ≡ joined f xs ++ f x
 joined-snoc f [] x = append-nil (f x)
 joined-snoc f (y ∷ xs) x = rw (joined-snoc f xs x) (sym (append-assoc (f y) (joined f xs) (f x)))

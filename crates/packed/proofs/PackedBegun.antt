@@ -146,10 +146,16 @@ fin Kind = fin-kind
 fin (Tail left) = fin-tail left
 
 -- after any number but the kind
-pub fin-reached : (p : Place) (v : ℕ) → 1 ≤ v → ¬ (p ≡ Kind) → Fin (reached p v)
+abbrev pub NotKind : Place → Type 0
+NotKind Count = Unit
+NotKind (Cell rows left) = Unit
+NotKind Kind = ⊥
+NotKind (Tail left) = Unit
+
+pub fin-reached : (p : Place) (v : ℕ) → 1 ≤ v → NotKind p → Fin (reached p v)
 fin-reached Count v l k = by-test Fin (eqb v 0) (λ e. absurd (omega (arith, l, eqb-true v 0 e))) (λ _. fin-rows (v - 1))
 fin-reached (Cell rows left) v l k = by-test Fin (eqb left 0) (λ _. fin-rows rows) (λ _. fin (Cell rows (left - 1)))
-fin-reached Kind v l k = absurd (k refl)
+fin-reached Kind v l k = absurd k
 fin-reached (Tail left) v l k = by-test Fin (eqb left 0) (λ _. ([], tt, refl)) (λ _. fin-tail (left - 1))
 
 -- ---- groups that more are to follow

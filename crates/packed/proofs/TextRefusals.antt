@@ -1,6 +1,6 @@
 -- When packing gives each refusal. A text that has begun can be brought to an end, so it begins a listing; what begins a listing has begun,
 -- because the listing is read to its end; and the byte that is refused is the one that the reader's outcome names. Assumes nothing.
-use mathlib.Core.Path.{_≡_, refl, ap, sym, subst, _∙_}
+use mathlib.Core.Path.{_≡_, refl, ap, sym, _∙_}
 use mathlib.Core.Bool.{Bool, true, false}
 use mathlib.Core.List.{List, [], _∷_, _++_, append-assoc, append-nil}
 use mathlib.Core.Logic.{_↔_, _⊎_, inl, inr, Iff·trans}
@@ -22,7 +22,7 @@ use Rattle.packed.specs.Text.{next, rowEnd, rowOn, step, verdict, textVe
 use Rattle.packed.specs.Converted.{packing}
 use Rattle.packed.specs.Refusals.{Begins, First, IsText, RowsTooMany, Unfinished, DigitTooMany, TooLarge, Malformed, PackRefusals, PackingRefused}
 use Rattle.packed.proofs.Cases.{differ}
-use Rattle.packed.proofs.Rooms.{goes-through, none, too-small}
+use Rattle.packed.proofs.Rooms.{accepted, goes-through, none, too-small}
 use Rattle.packed.proofs.TextRead.{a-row, but-end, line-begins, one-more, row-first, row-goes, text-read}
 use Rattle.packed.proofs.TextOnly.{Good, Seen, all-seen, next-good, row-ended, seen, text-only}
 use Rattle.packed.proofs.TextBegun.{Fin, fin}
@@ -216,24 +216,15 @@ never bytes n p q r s t e =
     let f = refused-first step verdict (Line 1) judge bytes n e p q r in
     elim (refused-by (f .good) (f .next) n (f .holds .0) (f .holds .1) q p) [ inl z ↦ s z | inr z ↦ t (z .0) ]
 
--- a listing with its text, whatever the room has to say
-accepted : (bytes : List ℕ) (Q : ℕ → Type 0) → ((textVerdict bytes ≡ 0) × Q (length (textPacked bytes))) ↔ ((l : Listing) × Valid l × (text l ≡ bytes) × Q (length (packed l)))
-accepted bytes Q = (
-  λ x.
-  let l = text-only bytes (x .0) in
-  (l .0, l .1, l .2, subst Q (ap length (ap textPacked (sym (l .2)) ∙ text-read (l .0) (l .1) .1)) (x .1)),
-  λ x.
-  let t = text-read (x .0) (x .1) in
-  (ap textVerdict (sym (x .2)) ∙ t .0, subst Q (ap length (sym (t .1) ∙ ap textPacked (x .2))) (x .3)),
-)
-
 pub packing-refused : PackingRefused
 packing-refused bytes out =
     let w = textPacked bytes in
     let v = textVerdict bytes in
     let through : (n : ℕ) → ¬ (n ≡ 0) → ¬ (n ≡ 45) → (packing bytes out .0 .refusal ≡ n) ↔ (v ≡ n) = goes-through w out v in
+    let whole : (Q : ℕ → Type 0) → ((v ≡ 0) × Q (length w)) ↔ ((l : Listing) × Valid l × (text l ≡ bytes) × Q (length (packed l))) =
+    accepted textVerdict textPacked text packed bytes text-read (text-only bytes) in
     record {
-      none = Iff·trans (none w out v) (accepted bytes (λ k. k ≤ length out));
+      none = Iff·trans (none w out v) (whole (λ k. k ≤ length out));
       malformed =
           Iff·trans (through 40 (differ tt) (differ tt)) (
             λ e.
@@ -264,5 +255,5 @@ packing-refused bytes out =
           Iff·trans
           (too-small w out v
           (never bytes 45 (differ tt) (differ tt) (differ tt) (differ tt) (differ tt)))
-          (accepted bytes (λ k. length out < k));
+          (whole (λ k. length out < k));
     }

@@ -2,15 +2,15 @@
 -- from the start of any number the reading can be brought to an end, by a 1 for each number that is missing. Assumes nothing.
 use mathlib.Core.Path.{_≡_, refl, ap, sym, _∙_}
 use mathlib.Core.Bool.{Bool, true, false}
-use mathlib.Core.List.{List, [], _∷_, _++_, append-assoc, append-nil}
-use mathlib.Core.Logic.{_⊎_, inl, inr}
+use mathlib.Core.List.{List, [], _∷_, _++_}
+use mathlib.Core.Logic.{inl, inr}
 use Prim.Native.Nat.{ℕ, zero, suc, _+_, _-_, _*_, _%_, _^_, _≤_, _<_, min}
 use native.Mathlib.Nat.{pow-suc, pow-le-pow-right, mul-le-mul-left, mod-lt}
 use native.Mathlib.Numerals.{add-one}
 use native.Mathlib.Omega.{arith}
-use borrow.Author.Tests.{eqb-true, eqb-false, ltb-true, ltb-false, leb-true, leb-false, le-leb, lt-leb, le-ltb, lt-ltb, ne-eqb}
-use lib.Dec.{lit<, lit≤, ltb, leb, eqb}
-use lib.ListN.{length, length-append}
+use borrow.Author.Tests.{eqb-true, eqb-false, ltb-true, ltb-false, leb-true, leb-false, le-leb, le-ltb}
+use lib.Dec.{lit<, ltb, leb, eqb}
+use lib.ListN.{length}
 use Rattle.packed.specs.declared.Group.{Group}
 use Rattle.packed.specs.declared.Group.the-variants.{Going, Whole, Bad}
 use Rattle.packed.specs.declared.Place.{Place}
@@ -22,10 +22,9 @@ use Rattle.listing.specs.Listing.{Each}
 use Rattle.packed.specs.Packed.{weight, group, rowsOn, reached, grouping, step, verdict}
 use Rattle.packed.specs.Refusals.{NumberEnds, value}
 use Rattle.packed.proofs.Cases.{Refused, refuses, by-test}
-use Rattle.packed.proofs.Exact.{packed-halted}
+use Rattle.packed.proofs.Runs.{after-append, packed-halted}
 use Rattle.packed.proofs.PackedOnly.{same-weight}
 use Rattle.packed.proofs.PackedRead.{cell-goes, rows-more, tail-goes}
-use Rattle.packed.proofs.Verdicts.{runs-on}
 
 -- ---- a group, by its four outcomes
 
@@ -101,7 +100,7 @@ step-start (Halt n) b h = tt
 ends-start : (done : List ℕ) → NumberEnds done → AtStart (after step (At Count 0 0) done)
 ends-start done h = elim h [
   | inl e ↦ rw e (refl, refl)
-  | inr x ↦ rw (x .3, runs-on step (At Count 0 0) (x .0) (x .1 ∷ [])) (step-start (after step (At Count 0 0) (x .0)) (x .1) (x .2))
+  | inr x ↦ rw (x .3, after-append step (At Count 0 0) (x .0) (x .1 ∷ [])) (step-start (after step (At Count 0 0) (x .0)) (x .1) (x .2))
 ]
 
 pub started : (done : List ℕ) → NumberEnds done → verdict (after step (At Count 0 0) done) ≡ 43 → (p : Place) × (after step (At Count 0 0) done ≡ At p 0 0)

@@ -1,35 +1,35 @@
 -- When unpacking gives each refusal. Where the reading has not stopped, the bytes are whole numbers that begin a packed listing, and groups
 -- of a next one; what the next byte makes of them is told by the group that it is. Assumes nothing.
-use mathlib.Core.Path.{_≡_, refl, ap, sym, subst, _∙_}
+use mathlib.Core.Path.{_≡_, refl, ap, sym, _∙_}
 use mathlib.Core.Bool.{Bool, true, false}
 use mathlib.Core.List.{List, [], _∷_, _++_, append-assoc, append-nil}
 use mathlib.Core.Logic.{_↔_, _⊎_, inl, inr, Iff·trans}
-use Prim.Native.Nat.{ℕ, zero, suc, _+_, _-_, _*_, _%_, _^_, _≤_, _<_, min}
-use native.Mathlib.Nat.{add-zero, pow-le-pow-right, mod-eq-of-lt}
+use Prim.Native.Nat.{ℕ, _+_, _-_, _*_, _%_, _^_, _≤_, _<_, min}
+use native.Mathlib.Nat.{pow-le-pow-right}
 use native.Mathlib.Omega.{arith}
-use borrow.Author.Tests.{eqb-true, eqb-false, leb-true, leb-false, le-leb, lt-leb, lt-ltb, ne-eqb}
+use borrow.Author.Tests.{eqb-true, eqb-false, leb-true, leb-false, le-leb, lt-leb, ne-eqb}
 use lib.Dec.{lit<, lit≤, eqb, leb}
 use lib.ListN.{length}
 use Rattle.packed.specs.declared.Group.{Group}
-use Rattle.packed.specs.declared.Group.the-variants.{Going, Whole, Bad}
+use Rattle.packed.specs.declared.Group.the-variants.{Whole}
 use Rattle.packed.specs.declared.Place.{Place}
 use Rattle.packed.specs.declared.Place.the-variants.{Count, Cell, Kind, Tail}
 use Rattle.packed.specs.declared.Packed.{Packed}
 use Rattle.packed.specs.declared.Packed.the-variants.{At, Done, Halt}
 use Rattle.packed.specs.Machine.{after}
 use Rattle.listing.specs.Number.{groups}
-use Rattle.listing.specs.Listing.{Listing, Valid, Each, text, packed, joined, grouped}
+use Rattle.listing.specs.Listing.{Listing, Valid, text, packed, joined, grouped}
 use Rattle.packed.specs.Packed.{weight, group, rowsOn, reached, grouping, step, verdict, packedVerdict, packedText}
 use Rattle.packed.specs.Converted.{unpacking}
-use Rattle.packed.specs.Refusals.{AtKind, Begins, CountWrong, First, IsPacked, KindWrong, Reached, Within, UnpackRefusals, UnpackingRefused, value}
+use Rattle.packed.specs.Refusals.{AtKind, Begins, CountWrong, First, IsPacked, KindWrong, Reached, UnpackingRefused, value}
 use Rattle.packed.proofs.Cases.{by-test, differ, each-append, each-back, each-front}
-use Rattle.packed.proofs.Exact.{packed-halted}
+use Rattle.packed.proofs.Runs.{after-append, packed-halted}
 use Rattle.packed.proofs.Groups.{groups-small}
 use Rattle.packed.proofs.PackedBegun.{Bytes, NotKind, Sound, by-group, fin, fin-reached, fits-so, fits-too, high-fits, high-run, sound, split, started, value-less, value-snoc}
-use Rattle.packed.proofs.PackedOnly.{Before, Good, Seen, group-good, packed-only, seen}
+use Rattle.packed.proofs.PackedOnly.{Before, Seen, group-good, packed-only, seen}
 use Rattle.packed.proofs.PackedRead.{a-count, all-rows, packed-read, whole}
 use Rattle.packed.proofs.Rooms.{accepted, goes-through, none, too-small}
-use Rattle.packed.proofs.Verdicts.{Judge, begins-begun, begins-whole, first-map, more-back, more-first, refused-back, refused-first, refused-on, runs-on, snoc}
+use Rattle.packed.proofs.Verdicts.{Judge, begins-begun, begins-whole, first-map, more-back, more-first, refused-back, refused-first, snoc}
 
 abbrev start : Packed
 start = At Count 0 0
@@ -137,7 +137,7 @@ place-of {done} {gs} {bytes} r =
       before = s .1;
       here =
           ap (λ (l : List ℕ). after step start l) (r .bytes-are)
-          ∙ runs-on step start done gs
+          ∙ after-append step start done gs
           ∙ rw (s .1) (rw (e, k) at (high-run (s .0) 0 0 0 gs refl (r .going .0) (rw e (r .going .1))));
     }
 
@@ -155,14 +155,14 @@ reached-by bytes h e =
     let d = begins-begun step verdict start judge done gs v in
     let s = started done (x .2) d in
     let f = fin (s .0) in
-    let z : verdict (after step (At (s .0) 0 0) gs) ≡ 43 = rw (s .1) at (sym (ap verdict (runs-on step start done gs)) ∙ v) in
+    let z : verdict (after step (At (s .0) 0 0) gs) ≡ 43 = rw (s .1) at (sym (ap verdict (after-append step start done gs)) ∙ v) in
     let l = high-fits (s .0) 0 0 0 gs refl (lit≤ tt) (x .3) z in (
       done,
       gs,
       record {
         begins =
             begins-by done (f .0) (each-front (λ (y : ℕ). y < 256) done gs (rw (x .4) at h)) (f .1) d
-            (ap verdict (runs-on step start done (f .0)) ∙ rw (s .1) (f .2));
+            (ap verdict (after-append step start done (f .0)) ∙ rw (s .1) (f .2));
         ends = x .2;
         going = (x .3, omega (arith, l));
         bytes-are = x .4;
@@ -283,7 +283,7 @@ at-kind : (done : List ℕ) → AtKind done → after step start done ≡ At Kin
 at-kind done k =
     let n = length (k .0) in
     rw (k .3)
-    (runs-on step start (groups (n + 1)) (joined grouped (k .0)) ∙ rw (a-count n (k .2) .ends) (all-rows (k .0) (k .1) .ends))
+    (after-append step start (groups (n + 1)) (joined grouped (k .0)) ∙ rw (a-count n (k .2) .ends) (all-rows (k .0) (k .1) .ends))
 
 kind-wrong : (v : ℕ) → ¬ (v ≡ 1) → ¬ (v ≡ 2) → reached Kind v ≡ Halt 46
 kind-wrong v p q = simp (ne-eqb v 1 p, ne-eqb v 2 q)
@@ -293,7 +293,7 @@ wrong-read bytes x = elim x [
   | inl c ↦ rw (c .1) (ap verdict (packed-halted 46 (c .0)))
   | inr k ↦
       let e = whole Kind (k .kind) (k .fits) .ends ∙ kind-wrong (k .kind) (k .not-audio) (k .not-refused) in
-      rw (k .bytes-are, runs-on step start (k .done) (groups (k .kind) ++ k .rest), at-kind (k .done) (k .at), runs-on step (At Kind 0 0) (groups (k .kind)) (k .rest), e)
+      rw (k .bytes-are, after-append step start (k .done) (groups (k .kind) ++ k .rest), at-kind (k .done) (k .at), after-append step (At Kind 0 0) (groups (k .kind)) (k .rest), e)
       (ap verdict (packed-halted 46 (k .rest)))
 ]
 
@@ -324,7 +324,7 @@ goes-on bytes done gs h r l k =
         let x = ends-by-one p gs l in
         let f = fin-reached p (x .0) (x .1) q in
         begins-by bytes (1 ∷ f .0) h (lit< tt, f .1) (ap verdict e)
-        (ap verdict (runs-on step start bytes (1 ∷ f .0))
+        (ap verdict (after-append step start bytes (1 ∷ f .0))
         ∙ ap (λ (t : Packed). verdict (after step (step t 1) (f .0))) e
         ∙ ap (λ (t : Packed). verdict (after step t (f .0))) (x .2)
         ∙ f .2)
@@ -402,26 +402,26 @@ unpacking-refused bytes out h =
       needless =
           Iff·trans (through 41 (differ tt) (differ tt)) (
             λ e.
-            first-map (λ good b x. refused good b 41 (λ gs c. ¬ (gs ≡ []) × (c ≡ 0)) (λ p gs o z. is-needless p gs b o z) x)
-            (within bytes h (refused-first step verdict start judge bytes 41 e (differ tt) (differ tt) (differ tt))),
+                first-map (λ good b x. refused good b 41 (λ gs c. ¬ (gs ≡ []) × (c ≡ 0)) (λ p gs o z. is-needless p gs b o z) x)
+                (within bytes h (refused-first step verdict start judge bytes 41 e (differ tt) (differ tt) (differ tt))),
             λ f.
-            refused-back step verdict start judge bytes 41 (differ tt) (differ tt)
-            (first-map
-            (λ good b x.
-            refused-so good b 41 (λ gs c. ¬ (gs ≡ []) × (c ≡ 0))
-            (λ p gs l y. rw (y .1) (group-needless p (value gs) (min (length gs) 5) l (some gs .1 (y .0)))) x) f),
+                refused-back step verdict start judge bytes 41 (differ tt) (differ tt)
+                (first-map
+                (λ good b x.
+                refused-so good b 41 (λ gs c. ¬ (gs ≡ []) × (c ≡ 0))
+                (λ p gs l y. rw (y .1) (group-needless p (value gs) (min (length gs) 5) l (some gs .1 (y .0)))) x) f),
           );
       large =
           Iff·trans (through 42 (differ tt) (differ tt)) (
             λ e.
-            first-map (λ good b x. refused good b 42 (λ gs c. 2147483648 < value (gs ++ (c ∷ []))) (λ p gs o z. is-large p gs b o z) x)
-            (within bytes h (refused-first step verdict start judge bytes 42 e (differ tt) (differ tt) (differ tt))),
+                first-map (λ good b x. refused good b 42 (λ gs c. 2147483648 < value (gs ++ (c ∷ []))) (λ p gs o z. is-large p gs b o z) x)
+                (within bytes h (refused-first step verdict start judge bytes 42 e (differ tt) (differ tt) (differ tt))),
             λ f.
-            refused-back step verdict start judge bytes 42 (differ tt) (differ tt)
-            (first-map
-            (λ good b x.
-            refused-so good b 42 (λ gs c. 2147483648 < value (gs ++ (c ∷ [])))
-            (λ p gs l y. group-large p (value gs) (min (length gs) 5) b (larger-too gs b y)) x) f),
+                refused-back step verdict start judge bytes 42 (differ tt) (differ tt)
+                (first-map
+                (λ good b x.
+                refused-so good b 42 (λ gs c. 2147483648 < value (gs ++ (c ∷ [])))
+                (λ p gs l y. group-large p (value gs) (min (length gs) 5) b (larger-too gs b y)) x) f),
           );
       ends = Iff·trans (through 43 (differ tt) (differ tt)) (reached-by bytes h, λ x. ap verdict (place-of (x .2) .here));
       more =

@@ -53,9 +53,9 @@ module _ (verdict : List ℕ → ℕ) (result : List ℕ → List ℕ) (one othe
       → ((verdict bytes ≡ 0) × Q (length (result bytes))) ↔ ((l : Listing) × Valid l × (one l ≡ bytes) × Q (length (other l)))
   accepted Q = (
     λ x.
-    let l = only (x .0) in
-    (l .0, l .1, l .2, subst Q (ap length (ap result (sym (l .2)) ∙ read (l .0) (l .1) .1)) (x .1)),
+        let l = only (x .0) in
+        (l .0, l .1, l .2, subst Q (ap length (ap result (sym (l .2)) ∙ read (l .0) (l .1) .1)) (x .1)),
     λ x.
-    let t = read (x .0) (x .1) in
-    (ap verdict (sym (x .2)) ∙ t .0, subst Q (ap length (sym (t .1) ∙ ap result (x .2))) (x .3)),
+        let t = read (x .0) (x .1) in
+        (ap verdict (sym (x .2)) ∙ t .0, subst Q (ap length (sym (t .1) ∙ ap result (x .2))) (x .3)),
   )

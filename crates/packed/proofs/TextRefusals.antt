@@ -1,14 +1,11 @@
 -- When packing gives each refusal. A text that has begun can be brought to an end, so it begins a listing; what begins a listing has begun,
 -- because the listing is read to its end; and the byte that is refused is the one that the reader's outcome names. Assumes nothing.
 use mathlib.Core.Path.{_≡_, refl, ap, sym, _∙_}
-use mathlib.Core.Bool.{Bool, true, false}
 use mathlib.Core.List.{List, [], _∷_, _++_, append-assoc, append-nil}
 use mathlib.Core.Logic.{_↔_, _⊎_, inl, inr, Iff·trans}
-use Prim.Native.Nat.{ℕ, zero, suc, _+_, _≤_, _<_}
+use Prim.Native.Nat.{ℕ, suc, _+_, _≤_, _<_}
 use native.Mathlib.Nat.{add-zero}
 use native.Mathlib.Omega.{arith}
-use borrow.Author.Tests.{ltb-true, ltb-false}
-use lib.Dec.{ltb}
 use lib.ListN.{length, length-append, getD, drop}
 use Rattle.packed.specs.declared.Part.{Part}
 use Rattle.packed.specs.declared.Part.the-variants.{Fresh}
@@ -20,14 +17,15 @@ use Rattle.listing.specs.Listing.{Listing, Valid, Each, line, joined, text, pac
 use Rattle.listing.specs.Listing as listing
 use Rattle.packed.specs.Text.{next, rowEnd, rowOn, step, verdict, textVerdict, textPacked}
 use Rattle.packed.specs.Converted.{packing}
-use Rattle.packed.specs.Refusals.{Begins, First, IsText, RowsTooMany, Unfinished, DigitTooMany, TooLarge, Malformed, PackRefusals, PackingRefused}
+use Rattle.packed.specs.Refusals.{RowsTooMany, Unfinished, TooLarge, Malformed, PackingRefused}
 use Rattle.packed.proofs.Cases.{differ}
 use Rattle.packed.proofs.Rooms.{accepted, goes-through, none, too-small}
+use Rattle.packed.proofs.Runs.{after-append}
 use Rattle.packed.proofs.TextRead.{a-row, but-end, line-begins, one-more, row-first, row-goes, text-read}
 use Rattle.packed.proofs.TextOnly.{Good, Seen, all-seen, next-good, row-ended, seen, text-only}
-use Rattle.packed.proofs.TextBegun.{Fin, fin}
+use Rattle.packed.proofs.TextBegun.{fin}
 use Rattle.packed.proofs.TextLarge.{Outcome, fresh-after, number-large, outcome}
-use Rattle.packed.proofs.Verdicts.{Judge, begins-begun, begins-whole, first-map, more-back, more-first, refused-back, refused-first, runs-on, snoc}
+use Rattle.packed.proofs.Verdicts.{Judge, begins-begun, begins-whole, first-map, more-back, more-first, refused-back, refused-first, snoc}
 
 -- ---- the reader is a judge
 
@@ -102,8 +100,8 @@ full n r (q ∷ rows) h l =
     record {
       front = line r ++ x .front;
       shown = ap (λ (y : List ℕ). line r ++ y) (x .shown) ∙ sym (append-assoc (line r) (x .front) (10 ∷ []));
-      begun = ap verdict (runs-on step (Line n) (line r) (x .front)) ∙ rw a (x .begun);
-      closed = runs-on step (Line n) (line r) (joined line (q ∷ rows)) ∙ rw (a, ← e) (x .closed);
+      begun = ap verdict (after-append step (Line n) (line r) (x .front)) ∙ rw a (x .begun);
+      closed = after-append step (Line n) (line r) (joined line (q ∷ rows)) ∙ rw (a, ← e) (x .closed);
     }
 
 too-many-rows : (bytes : List ℕ) → (t : RowsTooMany bytes) → Full 1 (t .0) 2147483648
@@ -146,7 +144,7 @@ unfinished : (bytes : List ℕ) → textVerdict bytes ≡ 43 → Unfinished byte
 unfinished bytes e =
     let s = after step (Line 1) bytes in
     elim (fin s bytes (seen bytes) e) [
-      | inl x ↦ whole bytes (x .0) e (ap verdict (runs-on step (Line 1) bytes (x .0)) ∙ x .1)
+      | inl x ↦ whole bytes (x .0) e (ap verdict (after-append step (Line 1) bytes (x .0)) ∙ x .1)
       | inr x ↦
           let w : Seen (Row (x .1) 0 (x .2)) (bytes ++ x .0) = rw (x .4) at (all-seen s bytes (x .0) (seen bytes)) in
           let g : Good (x .2) 10 10 (next (x .2) 10 10) = next-good (x .2) 10 10 (w .1 .ok) in
@@ -167,7 +165,7 @@ large good b e t = elim t [
   | inl d ↦
       let g : textVerdict (d .before ++ decimal (d .n)) ≡ 43 = rw (d .good-is) at e in
       let s = after step (Line 1) (d .before) in
-      let r = runs-on step (Line 1) (d .before) (decimal (d .n)) in
+      let r = after-append step (Line 1) (d .before) (decimal (d .n)) in
       let k =
       number-large (d .n) (d .digit) (omega (arith, d .large, d .one)) (omega (arith, d .fits)) (d .one) (d .large) s (d .before) (seen (d .before))
       (fresh-after (d .before) (d .begins))
@@ -228,28 +226,28 @@ packing-refused bytes out =
       malformed =
           Iff·trans (through 40 (differ tt) (differ tt)) (
             λ e.
-            first-map (λ good b h. (unfinished good (h .0), malformed good b (h .0) (h .1)))
-            (refused-first step verdict (Line 1) judge bytes 40 e (differ tt) (differ tt) (differ tt)),
+                first-map (λ good b h. (unfinished good (h .0), malformed good b (h .0) (h .1)))
+                (refused-first step verdict (Line 1) judge bytes 40 e (differ tt) (differ tt) (differ tt)),
             λ f.
-            refused-back step verdict (Line 1) judge bytes 40 (differ tt) (differ tt)
-            (first-map (λ good b h. is-malformed good b (begun good (h .0)) (h .1)) f),
+                refused-back step verdict (Line 1) judge bytes 40 (differ tt) (differ tt)
+                (first-map (λ good b h. is-malformed good b (begun good (h .0)) (h .1)) f),
           );
       large =
           Iff·trans (through 42 (differ tt) (differ tt)) (
             λ e.
-            first-map (λ good b h. (unfinished good (h .0), too-large good b (h .0) (h .1)))
-            (refused-first step verdict (Line 1) judge bytes 42 e (differ tt) (differ tt) (differ tt)),
+                first-map (λ good b h. (unfinished good (h .0), too-large good b (h .0) (h .1)))
+                (refused-first step verdict (Line 1) judge bytes 42 e (differ tt) (differ tt) (differ tt)),
             λ f.
-            refused-back step verdict (Line 1) judge bytes 42 (differ tt) (differ tt)
-            (first-map (λ good b h. large good b (begun good (h .0)) (h .1)) f),
+                refused-back step verdict (Line 1) judge bytes 42 (differ tt) (differ tt)
+                (first-map (λ good b h. large good b (begun good (h .0)) (h .1)) f),
           );
       ends = Iff·trans (through 43 (differ tt) (differ tt)) (unfinished bytes, begun bytes);
       more =
           Iff·trans (through 44 (differ tt) (differ tt)) (
             λ e. first-map (λ good b h. text-only good h) (more-first step verdict (Line 1) judge bytes e),
             λ f.
-            more-back step verdict (Line 1) judge bytes
-            (first-map (λ good b h. ap textVerdict (sym (h .2)) ∙ text-read (h .0) (h .1) .0) f),
+                more-back step verdict (Line 1) judge bytes
+                (first-map (λ good b h. ap textVerdict (sym (h .2)) ∙ text-read (h .0) (h .1) .0) f),
           );
       room =
           Iff·trans

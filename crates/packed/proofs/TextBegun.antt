@@ -17,7 +17,6 @@ use Rattle.packed.specs.declared.Text.{Text}
 use Rattle.packed.specs.declared.Text.the-variants.{Line, Row, Word, Last, End, Stop}
 use Rattle.packed.specs.Machine.{after}
 use Rattle.listing.specs.Number.{letters}
-use Rattle.listing.specs.Listing as listing
 use Rattle.packed.specs.Text.{next, rowOn, lastOn, step, verdict}
 use Rattle.packed.proofs.Cases.{by-test}
 use Rattle.packed.proofs.Runs.{after-append}

@@ -8,34 +8,28 @@ use borrow.Author.Tests.{le-leb, lt-leb}
 use lib.ListN.{length, length-append}
 use lib.Seq.{sets, sets-eq}
 use Rattle.packed.specs.declared.Answer.{Answer}
-use Rattle.packed.specs.Converted.{Converted}
+use Rattle.packed.specs.Converted.{converted}
 use Rattle.listing.proofs.Left.{sets-append}
 
-abbrev answered : ℕ → ℕ → Answer
-answered r n = record { refusal = r; written = n }
+abbrev told : ℕ → ℕ → Answer
+told r n = record { refusal = r; written = n }
 
 module _ (v : ℕ) (w out : List ℕ) where
   -- the reading refused
-  pub refuses : {r : ℕ} → r ≡ v → (r ≡ 0 → ⊥) → Converted v w out (answered r 0) out
+  pub refuses : {r : ℕ} → r ≡ v → (r ≡ 0 → ⊥) → (told r 0, out) ≡ converted v w out
   refuses p q = rw p (go v (rw p at q))
     where
-      go : (n : ℕ) → (n ≡ 0 → ⊥) → Converted n w out (answered n 0) out
+      go : (n : ℕ) → (n ≡ 0 → ⊥) → (told n 0, out) ≡ converted n w out
       go zero q = absurd (q refl)
-      go (suc n) q = record { refused = refl; counted = refl; bytes = refl }
+      go (suc n) q = refl
 
   -- the result has no room
-  pub overflows : 0 ≡ v → length out < length w → Converted v w out (answered 45 0) out
-  overflows p h = rw (← p) (record { refused = simp (lt-leb _ _ h); counted = refl; bytes = refl })
+  pub overflows : 0 ≡ v → length out < length w → (told 45 0, out) ≡ converted v w out
+  overflows p h = rw (← p, lt-leb _ _ h)
 
   -- the result is written
-  pub converts : {n : ℕ} {left : List ℕ} → 0 ≡ v → length w ≤ length out → n ≡ length w → left ≡ sets out 0 w → Converted v w out (answered 0 n) left
-  converts p h q r =
-      rw (← p)
-      (record {
-        refused = simp (le-leb _ _ h);
-        counted = q;
-        bytes = r ∙ sets-eq w out 0 (omega (arith, h)) ∙ rw (zero-add, q);
-      })
+  pub converts : {n : ℕ} {left : List ℕ} → 0 ≡ v → length w ≤ length out → n ≡ length w → left ≡ sets out 0 w → (told 0 n, left) ≡ converted v w out
+  converts p h q r = rw (← p, le-leb _ _ h, q, r, sets-eq w out 0 (omega (arith, h)), zero-add)
 
 -- the size of a result of two parts, counted to one past the room
 module _ (a b : List ℕ) {room n more size : ℕ} (p : n ≡ length a) (q : more ≡ min (length b) (room + 1)) (r : size ≡ min (n + more) (room + 1)) where

@@ -10,3 +10,10 @@ pub mod Cases
 pub mod TextOnly
 pub mod PackedOnly
 pub mod Exact
+pub mod Verdicts
+pub mod TextBegun
+pub mod TextLarge
+pub mod Rooms
+pub mod TextRefusals
+pub mod PackedBegun
+pub mod PackedRefusals

@@ -23,7 +23,7 @@ use Rattle.listing.specs.Listing.{Listing, Valid, Each, Line, joined, grouped, 
 use Rattle.packed.specs.Packed.{weight, group, rowsOn, reached, grouping, step, verdict}
 use Rattle.packed.specs.Exact.{PackedOnly}
 use Rattle.packed.proofs.Groups.{groups-small, groups-large}
-use Rattle.packed.proofs.Cases.{by-test, each-snoc, joined-snoc}
+use Rattle.packed.proofs.Cases.{Refused, refuses, by-test, each-snoc, joined-snoc}
 
 -- ---- a number
 
@@ -48,7 +48,7 @@ power zero = lit≤ tt
 power (suc k) = rw (pow-suc 128 k) (omega (arith, power k))
 
 -- a group that fits weighs what its place says
-same-weight : (g k count : ℕ) → k ≡ min count 5 → g * weight k ≤ 2147483648 → g * weight k ≡ g * 128 ^ count
+pub same-weight : (g k count : ℕ) → k ≡ min count 5 → g * weight k ≤ 2147483648 → g * weight k ≡ g * 128 ^ count
 same-weight g k count e h = go (leb count 5) refl
   where
     go : (t : Bool) → leb count 5 ≡ t → g * weight k ≡ g * 128 ^ count
@@ -67,10 +67,10 @@ same-weight g k count e h = go (leb count 5) refl
 groups-front : (g u : ℕ) → g < 128 → 1 ≤ u → u * 128 + g < 2 ^ 64 → (128 + g) ∷ groups u ≡ groups (u * 128 + g)
 groups-front g u h l b = sym (groups-large {v = u * 128 + g} (omega arith) b ∙ rw (digits-div u h, digits-mod u h))
 
-abbrev Good : List ℕ → ℕ → Group → Type 0
+abbrev pub Good : List ℕ → ℕ → Group → Type 0
 Good gs b (Going m j) = Part m j (gs ++ (b ∷ []))
 Good gs b (Whole v) = (v ≤ 2147483648) × (gs ++ (b ∷ []) ≡ groups v)
-Good gs b (Bad e) = e ≡ 0 → ⊥
+Good gs b (Bad e) = Refused e
 
 module _ (n k b : ℕ) (gs : List ℕ) (byte : b < 256) (p : Part n k gs) (fits : n + b % 128 * weight k ≤ 2147483648) where
   same : n + b % 128 * weight k ≡ n + b % 128 * 128 ^ p .count
@@ -119,7 +119,7 @@ module _ (n k b : ℕ) (gs : List ℕ) (byte : b < 256) (p : Part n k gs) (fits 
             ∙ ap groups (sym q);
       }
 
-group-good : (n k b : ℕ) (gs : List ℕ) → b < 256 → Part n k gs → Good gs b (group n k b)
+pub group-good : (n k b : ℕ) (gs : List ℕ) → b < 256 → Part n k gs → Good gs b (group n k b)
 group-good n k b gs byte p =
     by-test (Good gs b) (leb (n + b % 128 * weight k) 2147483648)
     (λ f.
@@ -128,10 +128,10 @@ group-good n k b gs byte p =
     (λ l.
     by-test (Good gs b) (eqb b 0)
     (λ z.
-    by-test (Good gs b) (eqb k 0) (λ o. only-zero n k b gs byte p fits (eqb-true b 0 z) (eqb-true k 0 o)) (λ _ y. omega (arith, y)))
+    by-test (Good gs b) (eqb k 0) (λ o. only-zero n k b gs byte p fits (eqb-true b 0 z) (eqb-true k 0 o)) (λ _. refuses tt))
     (λ z. last-group n k b gs byte p fits (ltb-true b 128 l) (eqb-false b 0 z)))
     (λ l. more-groups n k b gs byte p fits (ltb-false b 128 l)))
-    (λ _ y. omega (arith, y))
+    (λ _. refuses tt)
 
 -- ---- the places
 
@@ -176,16 +176,16 @@ module _ {before : List ℕ} {total left : ℕ} {bytes : List ℕ} (v : ℕ) (sm
   numbers-all z = (omega (arith, i .sum, z, length-append (i .vs) (v ∷ [])), each-snoc Small (i .vs) (i .small) small)
 
 -- what stands before the number at a place
-abbrev Before : Place → List ℕ → Type 0
+abbrev pub Before : Place → List ℕ → Type 0
 Before Count bytes = bytes ≡ []
 Before (Cell rows left) bytes = (done : List ℕ) × Rows (rows + 1) done × Numbers done 9 left bytes
 Before Kind bytes = Rows 0 bytes
 Before (Tail left) bytes = (done : List ℕ) × (k : Bool) × Rows 0 done × Numbers (done ++ groups (kind k)) (lastCount k) left bytes
 
-abbrev Seen : Packed → List ℕ → Type 0
+abbrev pub Seen : Packed → List ℕ → Type 0
 Seen (At p n k) bytes = (done gs : List ℕ) × Before p done × Part n k gs × (bytes ≡ done ++ gs)
 Seen Done bytes = (l : Listing) × Valid l × (packed l ≡ bytes)
-Seen (Halt n) bytes = n ≡ 0 → ⊥
+Seen (Halt n) bytes = Refused n
 
 at-place : (p : Place) (bytes : List ℕ) → Before p bytes → Seen (At p 0 0) bytes
 at-place p bytes w = (bytes, [], w, part-none, sym (append-nil bytes))
@@ -201,7 +201,7 @@ rows-seen n bytes r =
 
 reached-seen : (p : Place) (bytes : List ℕ) (v : ℕ) → v ≤ 2147483648 → Before p bytes → Seen (reached p v) (bytes ++ groups v)
 reached-seen Count bytes v h w =
-    by-test (λ (s : Packed). Seen s (bytes ++ groups v)) (eqb v 0) (λ _ y. omega (arith, y))
+    by-test (λ (s : Packed). Seen s (bytes ++ groups v)) (eqb v 0) (λ _. refuses tt)
     (λ e.
     let z = eqb-false v 0 e in
     let m : 0 + (v - 1) + 1 ≡ v = omega arith in
@@ -231,7 +231,7 @@ reached-seen Kind bytes v h w =
     (λ _.
     by-test (λ (s : Packed). Seen s (bytes ++ groups v)) (eqb v 2)
     (λ e. at-place (Tail 4) (bytes ++ groups v) (bytes, true, w, numbers-none 5 4 refl (rw (eqb-true v 2 e) refl)))
-    (λ _ y. omega (arith, y)))
+    (λ _. refuses tt))
 reached-seen (Tail left) bytes v h w =
     let i = w .3 in
     let r = w .2 in
@@ -257,10 +257,10 @@ step-seen : (s : Packed) (bytes : List ℕ) (b : ℕ) → b < 256 → Seen s byt
 step-seen (At p n k) bytes b h w =
     rw (w .4, append-assoc (w .0) (w .1) (b ∷ []))
     (grouping-seen p (w .0) (w .1) b (group n k b) (w .2) (group-good n k b (w .1) h (w .3)))
-step-seen Done bytes b h w = λ y. omega (arith, y)
+step-seen Done bytes b h w = refuses tt
 step-seen (Halt n) bytes b h w = w
 
-all-seen : (s : Packed) (before bytes : List ℕ) → Each (λ b. b < 256) bytes → Seen s before → Seen (after step s bytes) (before ++ bytes)
+pub all-seen : (s : Packed) (before bytes : List ℕ) → Each (λ b. b < 256) bytes → Seen s before → Seen (after step s bytes) (before ++ bytes)
 all-seen s before [] h w = rw append-nil w
 all-seen s before (b ∷ bytes) h w =
     rw (append-assoc before (b ∷ []) bytes) at (all-seen (step s b) (before ++ (b ∷ [])) bytes (h .1) (step-seen s before b (h .0) w))
@@ -268,8 +268,10 @@ all-seen s before (b ∷ bytes) h w =
 read-whole : (s : Packed) (bytes : List ℕ) → Seen s bytes → verdict s ≡ 0 → (l : Listing) × Valid l × (packed l ≡ bytes)
 read-whole (At p n k) bytes w e = absurd (omega (arith, e))
 read-whole Done bytes w e = w
-read-whole (Halt n) bytes w e = absurd (w e)
+read-whole (Halt n) bytes w e = absurd (w .refused e)
+
+pub seen : (bytes : List ℕ) → Each (λ b. b < 256) bytes → Seen (after step (At Count 0 0) bytes) bytes
+seen bytes h = all-seen (At Count 0 0) [] bytes h (at-place Count [] refl)
 
 pub packed-only : PackedOnly
-packed-only bytes h e =
-    read-whole (after step (At Count 0 0) bytes) bytes (all-seen (At Count 0 0) [] bytes h (at-place Count [] refl)) e
+packed-only bytes h e = read-whole (after step (At Count 0 0) bytes) bytes (seen bytes h) e

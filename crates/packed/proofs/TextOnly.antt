@@ -2,7 +2,7 @@
 use mathlib.Core.Path.{_≡_, refl, ap, sym, _∙_}
 use mathlib.Core.Bool.{Bool, true, false}
 use mathlib.Core.List.{List, [], _∷_, _++_, append-assoc, append-nil}
-use Prim.Native.Nat.{ℕ, _+_, _-_, _*_, _≤_, _<_, min}
+use Prim.Native.Nat.{ℕ, _+_, _-_, _*_, _≤_, _<_}
 use native.Mathlib.Numerals.{add-one}
 use native.Mathlib.Omega.{arith}
 use borrow.Author.Tests.{eqb-true, eqb-false, ltb-true, ltb-false, eq-eqb, ne-eqb}
@@ -20,35 +20,35 @@ use Rattle.packed.specs.Machine.{after}
 use Rattle.listing.specs.Number.{decimal, signed, separator, letters}
 use Rattle.listing.specs.Listing.{Listing, Valid, Each, line, joined, word, text, lastCount}
 use Rattle.listing.specs.Listing as listing
-use Rattle.packed.specs.Text.{next, digit, grown, rowOn, lastOn, wordOn, lettered, step, verdict}
+use Rattle.packed.specs.Text.{next, digit, grown, rowOn, lastOn, lettered, step, verdict}
 use Rattle.packed.specs.Exact.{TextOnly}
 use Rattle.listing.proofs.Decimals.{decimal-small, decimal-large, signed-none, signed-some}
-use Rattle.packed.proofs.Cases.{by-test, each-snoc, joined-snoc, spaced, spaced-snoc, line-snoc}
+use Rattle.packed.proofs.Cases.{Refused, refuses, by-test, each-snoc, joined-snoc, spaced, spaced-snoc, line-snoc}
 
 -- ---- a number
 
 -- the bytes of what was read of it
-abbrev partial : Part → List ℕ
+abbrev pub partial : Part → List ℕ
 partial Fresh = []
 partial Minus = 45 ∷ []
 partial (Closed v) = signed v
 partial (Open n) = decimal n
 
-abbrev Ok : Part → Type 0
+abbrev pub Ok : Part → Type 0
 Ok Fresh = Unit
 Ok Minus = Unit
 Ok (Closed v) = v ≤ 1
 Ok (Open n) = (1 ≤ n) × (n < 2147483648)
 
-abbrev Good : Part → ℕ → ℕ → Next → Type 0
+abbrev pub Good : Part → ℕ → ℕ → Next → Type 0
 Good p s b (More q) = Ok q × (partial p ++ (b ∷ []) ≡ partial q)
 Good p s b (Ended v) = (v ≤ 2147483648) × (partial p ≡ signed v) × (b ≡ s)
-Good p s b (Wrong n) = n ≡ 0 → ⊥
+Good p s b (Wrong n) = Refused n
 
 good-digit : (p : Part) (s b : ℕ) (n : Next) → (48 ≤ b → b ≤ 57 → Good p s b n) → Good p s b (digit b n)
 good-digit p s b n k =
-    by-test (Good p s b) (ltb b 48) (λ _ y. omega (arith, y))
-    (λ e. by-test (Good p s b) (ltb 57 b) (λ _ y. omega (arith, y)) (λ f. k (ltb-false b 48 e) (ltb-false 57 b f)))
+    by-test (Good p s b) (ltb b 48) (λ _. refuses tt)
+    (λ e. by-test (Good p s b) (ltb 57 b) (λ _. refuses tt) (λ f. k (ltb-false b 48 e) (ltb-false 57 b f)))
 
 first-digit : (b : ℕ) → 48 ≤ b → b ≤ 57 → b ∷ [] ≡ decimal (b - 48)
 first-digit b l h =
@@ -61,7 +61,7 @@ next-digit n b l h k m =
     let e : 48 + (b - 48) ≡ b = omega arith in
     sym (decimal-large {n = n * 10 + (b - 48)} (omega arith) (omega arith) ∙ rw (digits-div n d, digits-mod n d, e))
 
-next-good : (p : Part) (s b : ℕ) → Ok p → Good p s b (next p s b)
+pub next-good : (p : Part) (s b : ℕ) → Ok p → Good p s b (next p s b)
 next-good Fresh s b o =
     by-test (Good Fresh s b) (eqb b 45) (λ e. (tt, ap (λ (x : ℕ). x ∷ []) (eqb-true b 45 e)))
     (λ _.
@@ -70,9 +70,9 @@ next-good Fresh s b o =
     (λ z. good-digit Fresh s b (More (Open (b - 48))) (λ l h. let x = eqb-false b 48 z in ((omega arith, omega arith), first-digit b l h))))
 next-good Minus s b o =
     by-test (Good Minus s b) (eqb b 49) (λ e. (lit≤ tt, ap (λ (x : ℕ). 45 ∷ x ∷ []) (eqb-true b 49 e) ∙ sym (signed-none {v = 0} refl)))
-    (λ _ y. omega (arith, y))
+    (λ _. refuses tt)
 next-good (Closed v) s b o =
-    by-test (Good (Closed v) s b) (eqb b s) (λ e. (omega (arith, o), refl, eqb-true b s e)) (λ _ y. omega (arith, y))
+    by-test (Good (Closed v) s b) (eqb b s) (λ e. (omega (arith, o), refl, eqb-true b s e)) (λ _. refuses tt)
 next-good (Open n) s b o =
     let x : n + 1 - 1 ≡ n = omega arith in
     by-test (Good (Open n) s b) (eqb b s)
@@ -82,7 +82,7 @@ next-good (Open n) s b o =
     (λ l h.
     by-test (Good (Open n) s b) (ltb (n * 10 + (b - 48)) 2147483648)
     (λ e. ((omega (arith, o), ltb-true (n * 10 + (b - 48)) 2147483648 e), next-digit n b (o .0) (o .1) l h))
-    (λ _ y. omega (arith, y))))
+    (λ _. refuses tt)))
 
 -- ---- a line: behind `before` stand whole numbers, and what was read of one that `left` others follow, of `total` in all
 
@@ -96,7 +96,7 @@ pub record Begun (before : List ℕ) (total left : ℕ) (p : Part) (bytes : List
   pub ok : Ok p
   pub shown : bytes ≡ before ++ (spaced vs ++ partial p)
 
-begun-none : {before : List ℕ} {bytes : List ℕ} (total left : ℕ) → left + 1 ≡ total → bytes ≡ before → Begun before total left Fresh bytes
+pub begun-none : {before : List ℕ} {bytes : List ℕ} (total left : ℕ) → left + 1 ≡ total → bytes ≡ before → Begun before total left Fresh bytes
 begun-none {before} total left e h =
     record { vs = []; small = tt; sum = omega (arith, e); ok = tt; shown = h ∙ sym (append-nil before) }
 
@@ -148,25 +148,43 @@ module _ {before : List ℕ} {total left : ℕ} {p : Part} {bytes : List ℕ} (b
 pub record Rows (count : ℕ) : Type 0 where
   pub rows : List (List ℕ)
   pub good : Each (listing.Line 9) rows
-  pub counts : count ≡ min (length rows) 2147483648
+  pub counts : count ≡ length rows + 1
+  pub few : count ≤ 2147483648
 
 -- the word's letters from one to another
-abbrev first : Bool → ℕ
+abbrev pub first : Bool → ℕ
 first false = 0
 first true = 6
 
-abbrev past : Bool → ℕ
+abbrev pub past : Bool → ℕ
 past false = 6
 past true = 14
 
-abbrev Seen : Text → List ℕ → Type 0
+abbrev pub Seen : Text → List ℕ → Type 0
 Seen (Line n) bytes = (r : Rows n) × (bytes ≡ joined line (r .rows))
 Seen (Row n left p) bytes = (r : Rows n) × Begun (joined line (r .rows)) 9 left p bytes
 Seen (Word n at) bytes =
-    (r : Rows n) × (k : Bool) × (n < 2147483648) × (first k < at) × (at < past k) × (bytes ≡ joined line (r .rows) ++ slice (first k) at letters)
-Seen (Last n left p) bytes = (r : Rows n) × (k : Bool) × (n < 2147483648) × Begun (joined line (r .rows) ++ word k) (lastCount k) left p bytes
+    (r : Rows n) × (k : Bool) × (first k < at) × (at < past k) × (bytes ≡ joined line (r .rows) ++ slice (first k) at letters)
+Seen (Last n left p) bytes = (r : Rows n) × (k : Bool) × Begun (joined line (r .rows) ++ word k) (lastCount k) left p bytes
 Seen (End n) bytes = (l : Listing) × Valid l × (text l ≡ bytes)
-Seen (Stop n) bytes = n ≡ 0 → ⊥
+Seen (Stop n) bytes = Refused n
+
+-- the line feed of a row
+pub row-ended :
+    {n left : ℕ} {p : Part} {bytes : List ℕ} (b : ℕ) (r : Rows n) (i : Begun (joined line (r .rows)) 9 left p bytes) {v : ℕ}
+    → v ≤ 2147483648
+    → partial p ≡ signed v
+    → b ≡ separator left
+    → left ≡ 0
+    → (rows : List (List ℕ)) × Each (listing.Line 9) rows × (length rows ≡ n) × (bytes ++ (b ∷ []) ≡ joined line rows)
+row-ended b r i {v} s e f z =
+    let d = begun-end b i s e f z in
+    let row = i .vs ++ (v ∷ []) in (
+      r .rows ++ (row ∷ []),
+      each-snoc (listing.Line 9) (r .rows) (r .good) (d .0),
+      omega (arith, r .counts, length-append (r .rows) (row ∷ [])),
+      d .1 ∙ sym (joined-snoc line (r .rows) row),
+    )
 
 row-seen :
     {n left : ℕ} {p : Part} {bytes : List ℕ} (b : ℕ) (r : Rows n) (i : Begun (joined line (r .rows)) 9 left p bytes) (x : Next)
@@ -176,38 +194,30 @@ row-seen b r i (More q) g = (r, begun-more b i (g .0) (g .1))
 row-seen {n} {left} {p} {bytes} b r i (Ended v) g =
     by-test (λ (s : Text). Seen s (bytes ++ (b ∷ []))) (eqb left 0)
     (λ e.
-    let d = begun-end b i (g .0) (g .1) (g .2) (eqb-true left 0 e) in (
-      record {
-        rows = r .rows ++ ((i .vs ++ (v ∷ [])) ∷ []);
-        good = each-snoc (listing.Line 9) (r .rows) (r .good) (d .0);
-        counts = omega (arith, r .counts, length-append (r .rows) ((i .vs ++ (v ∷ [])) ∷ []));
-      },
-      d .1 ∙ sym (joined-snoc line (r .rows) (i .vs ++ (v ∷ []))),
-    ))
+    let d = row-ended b r i (g .0) (g .1) (g .2) (eqb-true left 0 e) in
+    by-test (λ (s : Text). Seen s (bytes ++ (b ∷ []))) (ltb n 2147483648)
+    (λ f. (record { rows = d .0; good = d .1; counts = omega (arith, d .2); few = omega (arith, ltb-true n 2147483648 f) }, d .3))
+    (λ _. refuses tt))
     (λ e. (r, begun-next b i (g .0) (g .1) (g .2) (eqb-false left 0 e)))
 row-seen b r i (Wrong e) g = g
 
 last-seen :
-    {n left : ℕ} {p : Part} {bytes : List ℕ} (b : ℕ) (r : Rows n) (k : Bool) (few : n < 2147483648) (i : Begun (joined line (r .rows) ++ word k) (lastCount k) left p bytes) (x : Next)
+    {n left : ℕ} {p : Part} {bytes : List ℕ} (b : ℕ) (r : Rows n) (k : Bool) (i : Begun (joined line (r .rows) ++ word k) (lastCount k) left p bytes) (x : Next)
     → Good p (separator left) b x
     → Seen (lastOn n left x) (bytes ++ (b ∷ []))
-last-seen b r k few i (More q) g = (r, k, few, begun-more b i (g .0) (g .1))
-last-seen {n} {left} {p} {bytes} b r k few i (Ended v) g =
+last-seen b r k i (More q) g = (r, k, begun-more b i (g .0) (g .1))
+last-seen {n} {left} {p} {bytes} b r k i (Ended v) g =
     by-test (λ (s : Text). Seen s (bytes ++ (b ∷ []))) (eqb left 0)
     (λ e.
     let d = begun-end b i (g .0) (g .1) (g .2) (eqb-true left 0 e) in (
       record { rows = r .rows; refused = k; last = i .vs ++ (v ∷ []) },
-      record { rows = r .good; count = omega (arith, r .counts); last = d .0 },
+      record { rows = r .good; count = omega (arith, r .counts, r .few); last = d .0 },
       sym (d .1 ∙ append-assoc (joined line (r .rows)) (word k) (line (i .vs ++ (v ∷ [])))),
     ))
-    (λ e. (r, k, few, begun-next b i (g .0) (g .1) (g .2) (eqb-false left 0 e)))
-last-seen b r k few i (Wrong e) g = g
+    (λ e. (r, k, begun-next b i (g .0) (g .1) (g .2) (eqb-false left 0 e)))
+last-seen b r k i (Wrong e) g = g
 
 -- ---- the words
-
--- the rows are as many as the count says
-few-rows : {n : ℕ} (r : Rows n) → n < 2147483648 → length (r .rows) ≡ n
-few-rows r h = omega (arith, r .counts)
 
 slice-more : (f t : ℕ) → f ≤ t → t < 14 → slice f (t + 1) letters ≡ slice f t letters ++ (getD letters t 0 ∷ [])
 slice-more f t l h =
@@ -219,41 +229,37 @@ word-begins :
     → bytes ≡ joined line (r .rows)
     → b ∷ [] ≡ slice (first k) (first k + 1) letters
     → first k + 1 < past k
-    → Seen (wordOn n (first k + 1)) (bytes ++ (b ∷ []))
-word-begins {n} {bytes} b k r e w h =
-    by-test (λ (s : Text). Seen s (bytes ++ (b ∷ []))) (ltb n 2147483648)
-    (λ t. (r, k, ltb-true n 2147483648 t, omega arith, h, rw (e, w) refl))
-    (λ _ y. omega (arith, y))
+    → Seen (Word n (first k + 1)) (bytes ++ (b ∷ []))
+word-begins b k r e w h = (r, k, omega arith, h, rw (e, w) refl)
 
 letter-seen :
     {n at : ℕ} {bytes : List ℕ} (b : ℕ) (r : Rows n) (k : Bool)
-    → n < 2147483648
     → first k < at
     → at < past k
     → bytes ≡ joined line (r .rows) ++ slice (first k) at letters
     → b ≡ getD letters at 0
     → Seen (lettered n at) (bytes ++ (b ∷ []))
-letter-seen {n} {at} {bytes} b r false few l h e c =
+letter-seen {n} {at} {bytes} b r false l h e c =
     let m : bytes ++ (b ∷ []) ≡ joined line (r .rows) ++ slice 0 (at + 1) letters =
     rw (e, c, slice-more 0 at (omega arith) (omega arith)) (append-assoc (joined line (r .rows)) (slice 0 at letters) (getD letters at 0 ∷ [])) in
     by-test (λ (s : Text). Seen s (bytes ++ (b ∷ []))) (eqb at 5)
-    (λ t. (r, false, few, begun-none 3 2 refl (m ∙ ap (λ (j : ℕ). joined line (r .rows) ++ slice 0 (j + 1) letters) (eqb-true at 5 t))))
+    (λ t. (r, false, begun-none 3 2 refl (m ∙ ap (λ (j : ℕ). joined line (r .rows) ++ slice 0 (j + 1) letters) (eqb-true at 5 t))))
     (λ t.
     let z = eqb-false at 5 t in
     by-test (λ (s : Text). Seen s (bytes ++ (b ∷ []))) (ltb at 13)
-    (λ u. (r, false, few, omega arith, omega arith, m))
+    (λ u. (r, false, omega arith, omega arith, m))
     (λ u. absurd (omega (arith, ltb-false at 13 u))))
-letter-seen {n} {at} {bytes} b r true few l h e c =
+letter-seen {n} {at} {bytes} b r true l h e c =
     let m : bytes ++ (b ∷ []) ≡ joined line (r .rows) ++ slice 6 (at + 1) letters =
     rw (e, c, slice-more 6 at (omega arith) (omega arith)) (append-assoc (joined line (r .rows)) (slice 6 at letters) (getD letters at 0 ∷ [])) in
     by-test (λ (s : Text). Seen s (bytes ++ (b ∷ []))) (eqb at 5)
     (λ t. absurd (omega (arith, eqb-true at 5 t)))
     (λ t.
     by-test (λ (s : Text). Seen s (bytes ++ (b ∷ []))) (ltb at 13)
-    (λ u. (r, true, few, omega arith, omega (arith, ltb-true at 13 u), m))
+    (λ u. (r, true, omega arith, omega (arith, ltb-true at 13 u), m))
     (λ u.
     let z : at ≡ 13 = omega (arith, ltb-false at 13 u) in
-    (r, true, few, begun-none 5 4 refl (m ∙ ap (λ (j : ℕ). joined line (r .rows) ++ slice 6 (j + 1) letters) z))))
+    (r, true, begun-none 5 4 refl (m ∙ ap (λ (j : ℕ). joined line (r .rows) ++ slice 6 (j + 1) letters) z))))
 
 -- ---- every byte
 
@@ -268,14 +274,14 @@ step-seen (Line n) bytes b w =
 step-seen (Row n left p) bytes b w = row-seen b (w .0) (w .1) (next p (separator left) b) (next-good p (separator left) b (w .1 .ok))
 step-seen (Word n at) bytes b w =
     by-test (λ (s : Text). Seen s (bytes ++ (b ∷ []))) (eqb b (getD letters at 0))
-    (λ e. letter-seen b (w .0) (w .1) (w .2) (w .3) (w .4) (w .5) (eqb-true b (getD letters at 0) e))
-    (λ _ y. omega (arith, y))
+    (λ e. letter-seen b (w .0) (w .1) (w .2) (w .3) (w .4) (eqb-true b (getD letters at 0) e))
+    (λ _. refuses tt)
 step-seen (Last n left p) bytes b w =
-    last-seen b (w .0) (w .1) (w .2) (w .3) (next p (separator left) b) (next-good p (separator left) b (w .3 .ok))
-step-seen (End n) bytes b w = λ y. omega (arith, y)
+    last-seen b (w .0) (w .1) (w .2) (next p (separator left) b) (next-good p (separator left) b (w .2 .ok))
+step-seen (End n) bytes b w = refuses tt
 step-seen (Stop n) bytes b w = w
 
-all-seen : (s : Text) (before bytes : List ℕ) → Seen s before → Seen (after step s bytes) (before ++ bytes)
+pub all-seen : (s : Text) (before bytes : List ℕ) → Seen s before → Seen (after step s bytes) (before ++ bytes)
 all-seen s before [] w = rw append-nil w
 all-seen s before (b ∷ bytes) w =
     rw (append-assoc before (b ∷ []) bytes) at (all-seen (step s b) (before ++ (b ∷ [])) bytes (step-seen s before b w))
@@ -286,8 +292,10 @@ read-whole (Row n left p) bytes w e = absurd (omega (arith, e))
 read-whole (Word n at) bytes w e = absurd (omega (arith, e))
 read-whole (Last n left p) bytes w e = absurd (omega (arith, e))
 read-whole (End n) bytes w e = w
-read-whole (Stop n) bytes w e = absurd (w e)
+read-whole (Stop n) bytes w e = absurd (w .refused e)
+
+pub seen : (bytes : List ℕ) → Seen (after step (Line 1) bytes) bytes
+seen bytes = all-seen (Line 1) [] bytes (record { rows = []; good = tt; counts = refl; few = lit≤ tt }, refl)
 
 pub text-only : TextOnly
-text-only bytes e =
-    read-whole (after step (Line 0) bytes) bytes (all-seen (Line 0) [] bytes (record { rows = []; good = tt; counts = refl }, refl)) e
+text-only bytes e = read-whole (after step (Line 1) bytes) bytes (seen bytes) e

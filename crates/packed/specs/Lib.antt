@@ -4,3 +4,4 @@ pub mod Packed
 pub mod Converted
 pub mod Examples
 pub mod Exact
+pub mod Refusals

@@ -1,8 +1,8 @@
 -- Reading a listing's text byte by byte. 40: a byte with which no listing goes on. 42: the digit that makes a number too large, or the
--- last line after too many rows. 43: the end before the last line's. 44: a byte after it.
+-- end of the row that is one too many. 43: the end before the last line's. 44: a byte after it.
 use mathlib.Core.Bool.{cond}
 use mathlib.Core.List.{List, [], _∷_, _++_}
-use Prim.Native.Nat.{ℕ, _+_, _-_, _*_, min}
+use Prim.Native.Nat.{ℕ, _+_, _-_, _*_}
 use lib.Dec.{eqb, ltb}
 use lib.ListN.{getD}
 use Rattle.packed.specs.declared.Part.{Part}
@@ -32,15 +32,16 @@ next Minus s b = cond (eqb b 49) (More (Closed 0)) (Wrong 40)
 next (Closed v) s b = cond (eqb b s) (Ended v) (Wrong 40)
 next (Open n) s b = cond (eqb b s) (Ended (n + 1)) (digit b (grown (n * 10 + (b - 48))))
 
--- ---- lines: each state holds the rows before it, counted no further than the first count that does not fit
+-- ---- lines: each state holds the count of the rows before it, stored
 
-abbrev pub counted : ℕ → ℕ
-counted rows = min (rows + 1) 2147483648
+-- at the end of a row
+abbrev pub rowEnd : ℕ → Text
+rowEnd rows = cond (ltb rows 2147483648) (Line (rows + 1)) (Stop 42)
 
 -- a row's number, which `left` others follow
 abbrev pub rowOn : ℕ → ℕ → Next → Text
 rowOn rows left (More p) = Row rows left p
-rowOn rows left (Ended v) = cond (eqb left 0) (Line (counted rows)) (Row rows (left - 1) Fresh)
+rowOn rows left (Ended v) = cond (eqb left 0) (rowEnd rows) (Row rows (left - 1) Fresh)
 rowOn rows left (Wrong n) = Stop n
 
 abbrev pub lastOn : ℕ → ℕ → Next → Text
@@ -48,16 +49,12 @@ lastOn rows left (More p) = Last rows left p
 lastOn rows left (Ended v) = cond (eqb left 0) (End rows) (Last rows (left - 1) Fresh)
 lastOn rows left (Wrong n) = Stop n
 
--- the word that goes on with the letter at a place
-abbrev pub wordOn : ℕ → ℕ → Text
-wordOn rows at = cond (ltb rows 2147483648) (Word rows at) (Stop 42)
-
 -- after the letter at a place; three numbers stand behind `audio `, five behind `refused `
 abbrev pub lettered : ℕ → ℕ → Text
 lettered rows at = cond (eqb at 5) (Last rows 2 Fresh) (cond (ltb at 13) (Word rows (at + 1)) (Last rows 4 Fresh))
 
 abbrev pub step : Text → ℕ → Text
-step (Line rows) b = cond (eqb b 97) (wordOn rows 1) (cond (eqb b 114) (wordOn rows 7) (rowOn rows 8 (next Fresh 32 b)))
+step (Line rows) b = cond (eqb b 97) (Word rows 1) (cond (eqb b 114) (Word rows 7) (rowOn rows 8 (next Fresh 32 b)))
 step (Row rows left p) b = rowOn rows left (next p (separator left) b)
 step (Word rows at) b = cond (eqb b (getD letters at 0)) (lettered rows at) (Stop 40)
 step (Last rows left p) b = lastOn rows left (next p (separator left) b)
@@ -97,17 +94,17 @@ verdict (Last rows left p) = 43
 verdict (End rows) = 0
 verdict (Stop n) = n
 
--- the row count, stored
+-- the row count of a whole text, stored
 abbrev pub count : Text → ℕ
 count (Line rows) = 0
 count (Row rows left p) = 0
 count (Word rows at) = 0
 count (Last rows left p) = 0
-count (End rows) = counted rows
+count (End rows) = rows
 count (Stop n) = 0
 
 abbrev pub textVerdict : List ℕ → ℕ
-textVerdict bytes = verdict (after step (Line 0) bytes)
+textVerdict bytes = verdict (after step (Line 1) bytes)
 
 abbrev pub textPacked : List ℕ → List ℕ
-textPacked bytes = groups (count (after step (Line 0) bytes)) ++ told step tell (Line 0) bytes
+textPacked bytes = groups (count (after step (Line 1) bytes)) ++ told step tell (Line 1) bytes

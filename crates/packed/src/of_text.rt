@@ -10,7 +10,10 @@ ghost use Prim.Native.Nat.{_+_, _^_, _≤_, _<_, min};
 ghost use lib.ListN.{length};
 ghost use lib.Seq.{sets};
 ghost use Rattle.packed.specs.Machine.{after, told};
-ghost use Rattle.packed.specs.Text.{next, counted, wordOn, lettered, rowOn, lastOn, step, yields, tell, verdict, count, listed, ended};
+ghost use Rattle.packed.specs.Text.{next, rowEnd, lettered, rowOn, lastOn, step, yields, tell, verdict, count, listed, ended};
+
+// The count of no rows, stored plus one.
+const NO_ROWS: usize = 1;
 
 fn fresh_next(sep: u8, b: u8) -> Next
     ensures { λ r. ⌜ r ≡ next Part.Fresh sep b ⌝ }
@@ -71,14 +74,13 @@ fn next_of(p: Part, sep: u8, b: u8) -> Next
     }
 }
 
-// One row more, counted no further than the first count that does not fit.
-fn one_more(rows: usize) -> usize
-    ensures { λ r. ⌜ r ≡ counted rows ⌝ }
+fn row_end(rows: usize) -> Text
+    ensures { λ r. ⌜ r ≡ rowEnd rows ⌝ }
 {
     if rows < 2147483648 {
-        return rows + 1;
+        return Text::Line(rows + 1);
     }
-    2147483648
+    Text::Stop(42)
 }
 
 fn row_on(rows: usize, left: usize, n: Next) -> Text
@@ -88,7 +90,7 @@ fn row_on(rows: usize, left: usize, n: Next) -> Text
         Next::More(p) => Text::Row(rows, left, p),
         Next::Ended(_) => {
             if left == 0 {
-                return Text::Line(one_more(rows));
+                return row_end(rows);
             }
             Text::Row(rows, left - 1, Part::Fresh)
         }
@@ -111,15 +113,6 @@ fn last_on(rows: usize, left: usize, n: Next) -> Text
     }
 }
 
-fn word_on(rows: usize, at: usize) -> Text
-    ensures { λ r. ⌜ r ≡ wordOn rows at ⌝ }
-{
-    if rows < 2147483648 {
-        return Text::Word(rows, at);
-    }
-    Text::Stop(42)
-}
-
 fn letter_on(rows: usize, at: usize) -> Text
     ensures { λ r. ⌜ r ≡ lettered rows at ⌝ }
 {
@@ -136,10 +129,10 @@ fn line_on(rows: usize, b: u8) -> Text
     ensures { λ r. ⌜ r ≡ step (Text.Line rows) b ⌝ }
 {
     if b == 97 {
-        return word_on(rows, 1);
+        return Text::Word(rows, 1);
     }
     if b == 114 {
-        return word_on(rows, 7);
+        return Text::Word(rows, 7);
     }
     row_on(rows, 8, fresh_next(32, b))
 }
@@ -175,7 +168,7 @@ fn ended_of(n: Next) -> Yield
 }
 
 fn line_yield(b: u8) -> Yield
-    ensures { λ r. ⌜ listed r ≡ yields (Text.Line 0) b ⌝ }
+    ensures { λ r. ⌜ listed r ≡ yields (Text.Line 1) b ⌝ }
 {
     if b == 97 {
         return Yield::Number(1);
@@ -237,7 +230,7 @@ pub fn count_of(s: Text) -> usize
     ensures { λ r. ⌜ r ≡ count s ⌝ }
 {
     match s {
-        Text::End(rows) => one_more(rows),
+        Text::End(rows) => rows,
         Text::Stop(_) => 0,
         Text::Line(_) => 0,
         Text::Row(_, _, _) => 0,
@@ -249,9 +242,9 @@ pub fn count_of(s: Text) -> usize
 // Where the reading of a text ends, and how many bytes it tells.
 pub fn measure(listing: &[u8], room: usize) -> TextSeen
     requires { ⌜ room < 2 ^ 63 ⌝ }
-    ensures { λ r. ⌜ (r .end ≡ after step (Text.Line 0) (now (listing .entry))) × (r .size ≡ min (length (told step tell (Text.Line 0) (now (listing .entry)))) (room + 1)) ⌝ }
+    ensures { λ r. ⌜ (r .end ≡ after step (Text.Line 1) (now (listing .entry))) × (r .size ≡ min (length (told step tell (Text.Line 1) (now (listing .entry)))) (room + 1)) ⌝ }
 {
-    let mut s = Text::Line(0);
+    let mut s = Text::Line(NO_ROWS);
     let mut size = 0;
     let mut i = 0;
     while i < listing.len() {
@@ -265,10 +258,10 @@ pub fn measure(listing: &[u8], room: usize) -> TextSeen
 
 // What a text tells, from a place on.
 pub fn write(listing: &[u8], out: &mut [u8], at: usize)
-    requires { ⌜ at + length (told step tell (Text.Line 0) (now listing)) ≤ length (now out) ⌝ }
-    ensures { λ _. ⌜ now (out .exit) ≡ sets (now (out .entry)) at (told step tell (Text.Line 0) (now (listing .entry))) ⌝ }
+    requires { ⌜ at + length (told step tell (Text.Line 1) (now listing)) ≤ length (now out) ⌝ }
+    ensures { λ _. ⌜ now (out .exit) ≡ sets (now (out .entry)) at (told step tell (Text.Line 1) (now (listing .entry))) ⌝ }
 {
-    let mut s = Text::Line(0);
+    let mut s = Text::Line(NO_ROWS);
     let mut to = at;
     let mut i = 0;
     while i < listing.len() {

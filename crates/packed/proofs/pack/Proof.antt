@@ -27,7 +27,7 @@ pack-spec =
     let k = c .before .before .before .count-of .ensures ∙ ap count (c .before .before .before .before .before .before .measure .ensures .0) in
     overflows (textVerdict l) (textPacked l) (c .before .before .before .before .before .before .before .before .before .args .out .now)
     (sym (c .before .before .before .before .if1 .left) ∙ c .before .before .before .before .before .verdict-of .ensures ∙ ap verdict (c .before .before .before .before .before .before .measure .ensures .0))
-    (over (groups (count (after step (Line 0) l))) (told step tell (Line 0) l) (rw k at (c .before .before .groups-size .ensures)) (c .before .before .before .before .before .before .measure .ensures .1) (c .before .capped .ensures)
+    (over (groups (count (after step (Line 1) l))) (told step tell (Line 1) l) (rw k at (c .before .before .groups-size .ensures)) (c .before .before .before .before .before .before .measure .ensures .1) (c .before .capped .ensures)
     (c .if2 .taken)))  -- returns-2
     (λ c κs. search needs)  -- put-groups-requires
     (λ c κs. search needs)  -- write-requires
@@ -37,8 +37,8 @@ pack-spec =
     let out = c .before .before .before .before .before .before .before .before .before .before .before .before .before .before .before .before .before .args .out .now in
     let k = c .before .before .before .before .before .before .before .before .before .before .before .count-of .ensures ∙ ap count (c .before .before .before .before .before .before .before .before .before .before .before .before .before .before .measure .ensures .0) in
     let p = rw k at (c .before .before .before .before .before .before .put-groups .ensures) in
-    let a = groups (count (after step (Line 0) l)) in
-    let b = told step tell (Line 0) l in
+    let a = groups (count (after step (Line 1) l)) in
+    let b = told step tell (Line 1) l in
     let n = exact a b (rw k at (c .before .before .before .before .before .before .before .before .before .before .groups-size .ensures)) (c .before .before .before .before .before .before .before .before .before .before .before .before .before .before .measure .ensures .1) (c .before .before .before .before .before .before .before .before .before .capped .ensures) (c .before .before .before .before .before .before .before .before .if2 .left) in
     converts (textVerdict l) (textPacked l) out
     (sym (c .before .before .before .before .before .before .before .before .before .before .before .before .if1 .left) ∙ c .before .before .before .before .before .before .before .before .before .before .before .before .before .verdict-of .ensures ∙ ap verdict (c .before .before .before .before .before .before .before .before .before .before .before .before .before .before .measure .ensures .0))

@@ -9,13 +9,12 @@ count-of-spec =
     tie.close
     (tie.spec
     (λ c. search needs)  -- enum-known-s
-    (λ c κs. search needs)  -- one-more-requires
     (λ c. search needs)  -- enum-told
     (λ c. search needs)  -- enum-told-2
     (λ c. search needs)  -- enum-told-3
     (λ c. search needs)  -- enum-told-4
     (λ c. search needs)  -- enum-told-5
-    (λ c. search (tests, needs, c .one-more .ensures, c .before .before .s .given .1))  -- returns
+    (λ c. search (tests, needs, c .before .s .given .1))  -- returns
     (λ c. search needs)  -- returns-2
     (λ c. search needs)  -- returns-3
     (λ c. search needs)  -- returns-4

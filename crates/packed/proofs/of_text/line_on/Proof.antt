@@ -8,10 +8,8 @@ pub line-on-spec : {M : Type 1} → statement M
 line-on-spec =
     tie.close
     (tie.spec
-    (λ c κs. search needs)  -- word-on-requires
-    (λ c. search (tests, needs, c .word-on .ensures))  -- returns
-    (λ c κs. search needs)  -- word-on-requires-2
-    (λ c. search (tests, needs, c .word-on2 .ensures))  -- returns-2
+    (λ c. search (tests, needs))  -- returns
+    (λ c. search (tests, needs))  -- returns-2
     (λ c κs. search needs)  -- fresh-next-requires
     (λ c κs. search needs)  -- row-on-requires
     (λ c. search (tests, needs, c .row-on .ensures, c .before .fresh-next .ensures)))  -- returns-3

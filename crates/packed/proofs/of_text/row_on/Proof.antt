@@ -10,8 +10,8 @@ row-on-spec =
     (tie.spec
     (λ c. search needs)  -- enum-known-n
     (λ c. search needs)  -- enum-told
-    (λ c κs. search needs)  -- one-more-requires
-    (λ c. search (tests, needs, c .one-more .ensures, c .before .before .enum-told .given .1))  -- returns
+    (λ c κs. search needs)  -- row-end-requires
+    (λ c. search (tests, needs, c .row-end .ensures, c .before .before .enum-told .given .1))  -- returns
     (λ c. search needs)  -- sub-t9
     (λ c. search needs)  -- enum-known-n-2
     (λ c. search (tests, needs, c .before .n .given .1))  -- returns-2

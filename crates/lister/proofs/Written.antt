@@ -49,7 +49,7 @@ module _ (c : Call) {a : Answer} {after : List ℤ} (out : List ℕ) (e : (a, af
       }
 
 -- with the programs' room no call has more rows than these
-few : (frame : List ℕ) → answerTo (frameCall frame) .0 .rows ≤ rowsLent
+pub few : (frame : List ℕ) → answerTo (frameCall frame) .0 .rows ≤ rowsLent
 few frame = omega (arith, kept-within c _ _ (promised c refl) .rows, long)
   where
     c : Call

@@ -98,7 +98,11 @@ fn put_last(a: Answer, out: &mut [u8], at: usize) -> usize
         return put_line(&[rows, header.bytes as i32, bit], out, said);
     }
     let said = put_word(out, at, 6, 14);
-    put_line(&[a.refusal as i32, rows, bit, a.name as i32, shown(a.block)], out, said)
+    put_line(
+        &[a.refusal as i32, rows, bit, a.name as i32, shown(a.block)],
+        out,
+        said,
+    )
 }
 
 // An answer's listing, in front of the output; its length.

@@ -17,4 +17,8 @@ listed-packed-spec =
     (λ c. sym (length-take-le _ _ (search needs)))  -- slice-aggregate-pack
     (λ c κs. search needs)  -- pack-requires
     (λ c. search needs)  -- same-length
-    (λ c. ?))  -- returns
+    (λ c.
+    let pack = c .before .before in
+    let listed = pack .before .before .before .before in
+    let s = listed .before .before .before .before .before in
+    packed-printed (s .args .frame .now) (s .args .out .now) (s .pre) (listed .listed .ensures) (pack .pack .ensures)))  -- returns

@@ -3,3 +3,4 @@ pub mod Begun
 pub mod Lines
 pub mod Last
 pub mod Written
+pub mod Rows

@@ -2,13 +2,14 @@
 -- every listing (crate listing).
 use mathlib.Core.Bool.{cond, not}
 use mathlib.Core.List.{List, [], _∷_, _++_, map}
+use mathlib.Core.Path.{_≡_}
 use Prim.Native.Nat.{ℕ, zero, suc, _+_, _*_}
 use lib.Dec.{eqb}
 use lib.IntN.{ℤ, pos, negsuc}
 use lib.ListN.{take, drop, replicate}
-use Rattle.syntax.specs.Numbers.{rowWidth, shown}
+use Rattle.syntax.specs.Numbers.{rowWidth, shown, numbers}
 use Rattle.ac3.specs.declared.Answer.{Answer}
-use Rattle.ac3.specs.Promise.{Call, call, answerTo}
+use Rattle.ac3.specs.Promise.{Call, call, answerTo, listed}
 use Rattle.listing.specs.Listing.{Listing, line, word}
 
 -- a number as a listing stores it: one more; none is below -1
@@ -39,6 +40,10 @@ lastLine a = word (not (eqb (a .refusal) 0)) ++ line (map stored (lastOf a))
 -- of a call
 abbrev pub listing : Call → Listing
 listing c = listingOf (answerTo c .0) (answerTo c .1)
+
+-- its rows are the definition's, with each number stored: so none of the room's other numbers is listed, and none is below -1
+abbrev pub ListsTheRows : Type 0
+ListsTheRows = (c : Call) → listing c .rows ≡ map (λ r. map stored (numbers r)) (listed c)
 
 -- ---- what the listing programs list: the frame at the start of their input, with room for so many rows
 

@@ -171,10 +171,6 @@ reached-by bytes h e =
       },
     )
 
--- the outcome of the next byte
-outcome-of : {done gs good : List ℕ} (b : ℕ) (o : Place-of done gs good) → Outcome (o .place) (value gs) (min (length gs) 5) b (step (after step start good) b)
-outcome-of {gs = gs} b o = rw (o .here) (outcome (o .place) (value gs) (min (length gs) 5) b)
-
 -- ---- 42
 
 larger : (gs : List ℕ) (b : ℕ) → 2147483648 < value gs + b % 128 * weight (min (length gs) 5) → 2147483648 < value (gs ++ (b ∷ []))

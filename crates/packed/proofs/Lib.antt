@@ -13,6 +13,7 @@ pub mod Exact
 pub mod Verdicts
 pub mod TextBegun
 pub mod TextLarge
+pub mod AtOnce
 pub mod Rooms
 pub mod TextRefusals
 pub mod PackedBegun

@@ -95,12 +95,14 @@ at (Halt n) w e = absurd (w .stopped e)
 live : (bytes : List ℕ) → packedVerdict bytes ≡ 43 → (p : Place) × (n k : ℕ) × (after step start bytes ≡ At p n k)
 live bytes e = at (after step start bytes) (sound start bytes tt) e
 
-under : (p : Place) (n k b : ℕ) → ¬ (verdict (step (At p n k) b) ≡ 44)
-under p n k b e = elim (outcome p n k b) [
-  | taken t ↦ elim t [ inl z ↦ omega (arith, sym z ∙ e) | inr z ↦ omega (arith, sym z ∙ e) ]
-  | large z l ↦ omega (arith, sym z ∙ e)
-  | needless z y x ↦ omega (arith, sym z ∙ e)
-  | wrong z v g w ↦ omega (arith, sym z ∙ e)
+-- no other number is told
+no-other :
+    (p : Place) (n k b m : ℕ) → ¬ (m ≡ 43) → ¬ (m ≡ 0) → ¬ (m ≡ 42) → ¬ (m ≡ 41) → ¬ (m ≡ 46) → ¬ (verdict (step (At p n k) b) ≡ m)
+no-other p n k b m h₁ h₂ h₃ h₄ h₅ e = elim (outcome p n k b) [
+  | taken t ↦ elim t [ inl z ↦ h₁ (sym e ∙ z) | inr z ↦ h₂ (sym e ∙ z) ]
+  | large z l ↦ h₃ (sym e ∙ z)
+  | needless z y x ↦ h₄ (sym e ∙ z)
+  | wrong z v g w ↦ h₅ (sym e ∙ z)
 ]
 
 judge : Judge step verdict start
@@ -112,7 +114,7 @@ judge =
       under =
           λ bytes b e z.
           let s = live bytes e in
-          under (s .0) (s .1) (s .2) b (rw (s .3) at z);
+          no-other (s .0) (s .1) (s .2) b 44 (differ tt) (differ tt) (differ tt) (differ tt) (differ tt) (rw (s .3) at z);
     }
 
 -- ---- 43
@@ -168,10 +170,6 @@ reached-by bytes h e =
         bytes-are = x .4;
       },
     )
-
--- the outcome of the next byte
-outcome-of : {done gs good : List ℕ} (b : ℕ) (o : Place-of done gs good) → Outcome (o .place) (value gs) (min (length gs) 5) b (step (after step start good) b)
-outcome-of {gs = gs} b o = rw (o .here) (outcome (o .place) (value gs) (min (length gs) 5) b)
 
 -- ---- 42
 
@@ -347,13 +345,8 @@ never : (bytes : List ℕ) → ¬ (packedVerdict bytes ≡ 45)
 never bytes e =
     let f = refused-first step verdict start judge bytes 45 e (differ tt) (differ tt) (differ tt) in
     let s = live (f .good) (f .holds .0) in
-    let k : verdict (step (At (s .0) (s .1) (s .2)) (f .next)) ≡ 45 = rw (s .3) at (sym (snoc step verdict start judge (f .good) (f .next)) ∙ f .holds .1) in
-    elim (outcome (s .0) (s .1) (s .2) (f .next)) [
-      | taken t ↦ elim t [ inl z ↦ omega (arith, sym z ∙ k) | inr z ↦ omega (arith, sym z ∙ k) ]
-      | large z l ↦ omega (arith, sym z ∙ k)
-      | needless z y x ↦ omega (arith, sym z ∙ k)
-      | wrong z v g w ↦ omega (arith, sym z ∙ k)
-    ]
+    no-other (s .0) (s .1) (s .2) (f .next) 45 (differ tt) (differ tt) (differ tt) (differ tt) (differ tt)
+    (rw (s .3) at (sym (snoc step verdict start judge (f .good) (f .next)) ∙ f .holds .1))
 
 -- the bytes of a byte that decides
 within :

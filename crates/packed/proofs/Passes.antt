@@ -8,6 +8,7 @@ use native.Mathlib.Omega.{arith}
 use lib.ListN.{length, drop, getD, length-append, drop-of-length-le}
 use lib.Seq.{sets, drop-cons}
 use Rattle.packed.specs.Machine.{after, told}
+use Rattle.packed.specs.Moves.{Moves}
 use Rattle.listing.proofs.Left.{Left, front, onward, finished}
 
 module _ {S : Type 0} (step : S → ℕ → S) (tell : S → ℕ → List ℕ) (bytes : List ℕ) where
@@ -30,6 +31,25 @@ module _ {S : Type 0} (step : S → ℕ → S) (tell : S → ℕ → List ℕ) (
   pub counted-none : (room : ℕ) (start : S) → Counted room start start 0 0
   counted-none room start = record { within = zero-le; state = refl; count = omega arith; most = zero-le }
 
+  -- one byte
+  pub one-byte : (s : S) (i : ℕ) → i < length bytes → Moves step tell bytes s i (tell s (getD bytes i 0)) (step s (getD bytes i 0)) (i + 1)
+  one-byte s i h = record { forward = omega arith; within = omega arith; state = after-drop s i h; tells = told-drop s i h }
+
+  pub counted-on :
+      {room : ℕ} {start s s′ : S} {size size′ i i′ k : ℕ} {e : List ℕ}
+      → Counted room start s size i
+      → Moves step tell bytes s i e s′ i′
+      → k ≡ length e
+      → size′ ≡ min (size + k) (room + 1)
+      → Counted room start s′ size′ i′
+  counted-on {room} {start} {s} {s′} {size} {size′} {i} {i′} {k} {e} c m p q =
+      record {
+        within = m .within;
+        state = sym (m .state) ∙ c .state;
+        count = omega (arith, c .count, ap length (m .tells), length-append e (told step tell s′ (drop i′ bytes)));
+        most = omega arith;
+      }
+
   pub counted-more :
       {room : ℕ} {start s s′ : S} {size size′ i k : ℕ}
       → i < length bytes
@@ -38,16 +58,7 @@ module _ {S : Type 0} (step : S → ℕ → S) (tell : S → ℕ → List ℕ) (
       → size′ ≡ min (size + k) (room + 1)
       → s′ ≡ step s (getD bytes i 0)
       → Counted room start s′ size′ (i + 1)
-  counted-more {room} {start} {s} {s′} {size} {size′} {i} {k} h c p q r =
-      rw r
-      (record {
-        within = omega arith;
-        state = sym (after-drop s i h) ∙ c .state;
-        count =
-            let l = length-append (tell s (getD bytes i 0)) (told step tell (step s (getD bytes i 0)) (drop (i + 1) bytes)) in
-            omega (arith, c .count, ap length (told-drop s i h), l);
-        most = omega arith;
-      })
+  counted-more {s = s} {i = i} h c p q r = rw r (counted-on c (one-byte s i h) p q)
 
   pub counted-all :
       {room : ℕ} {start s : S} {size i : ℕ}
@@ -61,12 +72,26 @@ module _ {S : Type 0} (step : S → ℕ → S) (tell : S → ℕ → List ℕ) (
   )
 
   module _ (s : S) (i : ℕ) {out : List ℕ} {to : ℕ} {whole : List ℕ} {end size : ℕ} where
+    pub front-of :
+        (e : List ℕ) (s′ : S) (i′ : ℕ)
+        → Left out to (told step tell s (drop i bytes)) whole end size
+        → Moves step tell bytes s i e s′ i′
+        → to + length e ≤ length out
+    front-of e s′ i′ l m = front e (told step tell s′ (drop i′ bytes)) (rw (m .tells) at l)
+
+    pub writing-on :
+        (e : List ℕ) (s′ : S) (i′ : ℕ) {out′ : List ℕ} {to′ : ℕ}
+        → Left out to (told step tell s (drop i bytes)) whole end size
+        → Moves step tell bytes s i e s′ i′
+        → (to′ ≡ to + length e) × (out′ ≡ sets out to e)
+        → Left out′ to′ (told step tell s′ (drop i′ bytes)) whole end size
+    writing-on e s′ i′ l m p = onward e (told step tell s′ (drop i′ bytes)) (rw (m .tells) at l) (p .0) (p .1)
+
     pub writing-room :
         i < length bytes
         → Left out to (told step tell s (drop i bytes)) whole end size
         → to + length (tell s (getD bytes i 0)) ≤ length out
-    writing-room h l =
-        front (tell s (getD bytes i 0)) (told step tell (step s (getD bytes i 0)) (drop (i + 1) bytes)) (rw (told-drop s i h) at l)
+    writing-room h l = front-of (tell s (getD bytes i 0)) (step s (getD bytes i 0)) (i + 1) l (one-byte s i h)
 
     pub writing-more :
         {out′ : List ℕ} {to′ : ℕ} {s′ : S}
@@ -75,10 +100,7 @@ module _ {S : Type 0} (step : S → ℕ → S) (tell : S → ℕ → List ℕ) (
         → (to′ ≡ to + length (tell s (getD bytes i 0))) × (out′ ≡ sets out to (tell s (getD bytes i 0)))
         → s′ ≡ step s (getD bytes i 0)
         → Left out′ to′ (told step tell s′ (drop (i + 1) bytes)) whole end size
-    writing-more h l p q =
-        rw q
-        (onward (tell s (getD bytes i 0)) (told step tell (step s (getD bytes i 0)) (drop (i + 1) bytes)) (rw (told-drop s i h) at l) (p .0)
-        (p .1))
+    writing-more h l p q = rw q (writing-on (tell s (getD bytes i 0)) (step s (getD bytes i 0)) (i + 1) l (one-byte s i h) p)
 
     pub writing-all : length bytes ≤ i → Left out to (told step tell s (drop i bytes)) whole end size → out ≡ whole
     writing-all h l = finished (rw (drop-of-length-le bytes h) at l) .1

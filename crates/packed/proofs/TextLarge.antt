@@ -252,7 +252,7 @@ no-digit x c h l m e =
 word-digit : (rows at c : ℕ) → 45 ≤ c → c < 58 → step (Word rows at) c ≡ Stop 40
 word-digit rows at c l m = simp (ne-eqb c (getD letters at 0) (no-digit (getD letters at 0) c (letter-no-digit at) l m))
 
-separator-small : (left : ℕ) → separator left < 48
+pub separator-small : (left : ℕ) → separator left < 48
 separator-small left = by-test (λ (x : ℕ). x < 48) (eqb left 0) (λ _. lit< tt) (λ _. lit< tt)
 
 digit-large : (s n d : ℕ) → s < 48 → d < 10 → 2147483647 < n * 10 + d → next (Open n) s (48 + d) ≡ Wrong 42

@@ -55,7 +55,7 @@ first-digit b l h =
     let e : b ≡ 48 + (b - 48) = omega arith in
     ap (λ (x : ℕ). x ∷ []) e ∙ sym (decimal-small (omega arith))
 
-next-digit : (n b : ℕ) → 1 ≤ n → n < 2147483648 → 48 ≤ b → b ≤ 57 → decimal n ++ (b ∷ []) ≡ decimal (n * 10 + (b - 48))
+pub next-digit : (n b : ℕ) → 1 ≤ n → n < 2147483648 → 48 ≤ b → b ≤ 57 → decimal n ++ (b ∷ []) ≡ decimal (n * 10 + (b - 48))
 next-digit n b l h k m =
     let d : b - 48 < 10 = omega arith in
     let e : 48 + (b - 48) ≡ b = omega arith in

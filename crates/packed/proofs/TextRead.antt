@@ -106,7 +106,7 @@ module _ (at : Part → Text) (on : Next → Text) (s : ℕ) (small : s < 48)
       )
 
   -- and the separator
-  number-ends : (v : ℕ) → v ≤ 2147483648 → Goes step yields (at Fresh) (signed v ++ (s ∷ [])) (on (Ended v)) (v ∷ [])
+  pub number-ends : (v : ℕ) → v ≤ 2147483648 → Goes step yields (at Fresh) (signed v ++ (s ∷ [])) (on (Ended v)) (v ∷ [])
   number-ends v h =
       let x = number v h in
       _then_ step yields (x .1) (closes {p = x .0} (x .2))
@@ -195,7 +195,7 @@ fresh-tells s b = go (eqb b 45) (eqb b 48) (ltb b 48) (ltb 57 b)
 pub row-first : (rows c : ℕ) → c < 58 → step (Line rows) c ≡ step (Row rows 8 Fresh) c
 row-first rows c h = simp (ne-eqb c 97 (omega arith), ne-eqb c 114 (omega arith))
 
-row-begins :
+pub row-begins :
     (rows c : ℕ) (cs : List ℕ) {t : Text} {out : List ℕ} → c < 58 → Goes step yields (Row rows 8 Fresh) (c ∷ cs) t out → Goes step yields (Line rows) (c ∷ cs) t out
 row-begins rows c cs h g =
     let e = row-first rows c h in
@@ -227,13 +227,13 @@ decimal-begins (suc f) n b h =
           whole = decimal-large (ltb-false n 10 e) h ∙ ap (λ (l : List ℕ). l ++ ((48 + n % 10) ∷ [])) (ih .whole);
         }
 
-signed-begins : (v : ℕ) → v ≤ 2147483648 → Begins (signed v)
+pub signed-begins : (v : ℕ) → v ≤ 2147483648 → Begins (signed v)
 signed-begins zero h = record { head = 45; tail = 49 ∷ []; high = lit≤ tt; low = lit< tt; whole = signed-none refl }
 signed-begins (suc n) h =
     let e : suc n - 1 ≡ n = omega arith in
     rw (signed-some {v = suc n} (omega arith), e) (decimal-begins 9 n (omega (arith, h)) (omega (arith, h)))
 
-begins-append : (a b : List ℕ) → Begins a → Begins (a ++ b)
+pub begins-append : (a b : List ℕ) → Begins a → Begins (a ++ b)
 begins-append a b r =
     record { head = r .head; tail = r .tail ++ b; high = r .high; low = r .low; whole = ap (λ (l : List ℕ). l ++ b) (r .whole) }
 
@@ -288,7 +288,7 @@ grouped-rows : (rows : List (List ℕ)) → grouped (flat rows) ≡ joined group
 grouped-rows [] = refl
 grouped-rows (r ∷ rows) = grouped-append r (flat rows) ∙ ap (λ (l : List ℕ). grouped r ++ l) (grouped-rows rows)
 
-told-groups : (s : Text) (bytes : List ℕ) → told step tell s bytes ≡ grouped (told step yields s bytes)
+pub told-groups : (s : Text) (bytes : List ℕ) → told step tell s bytes ≡ grouped (told step yields s bytes)
 told-groups s [] = refl
 told-groups s (b ∷ bytes) = rw (told-groups (step s b) bytes) (sym (grouped-append (yields s b) (told step yields (step s b) bytes)))
 

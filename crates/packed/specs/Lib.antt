@@ -5,3 +5,4 @@ pub mod Converted
 pub mod Examples
 pub mod Exact
 pub mod Refusals
+pub mod Moves

@@ -3,12 +3,16 @@ use super::Next;
 use super::Part;
 use super::Text;
 use super::TextSeen;
+use super::Turn;
 use super::Yield;
+use super::at_once;
 use super::numbers;
 ghost use mathlib.Core.Path.{_≡_};
 ghost use Prim.Native.Nat.{_+_, _^_, _≤_, _<_, min};
 ghost use lib.ListN.{length};
 ghost use lib.Seq.{sets};
+ghost use Rattle.listing.specs.Listing.{grouped};
+ghost use Rattle.packed.specs.Moves.{Moves, freshEnd, numberEnd, numbered};
 ghost use Rattle.packed.specs.Machine.{after, told};
 ghost use Rattle.packed.specs.Text.{next, rowEnd, lettered, rowOn, lastOn, step, yields, tell, verdict, count, listed, ended};
 
@@ -192,24 +196,87 @@ fn yield_of(s: Text, b: u8) -> Yield
     }
 }
 
-// How many bytes a byte of text tells.
-fn tell_size(s: Text, b: u8) -> usize
-    ensures { λ r. ⌜ r ≡ length (tell s b) ⌝ }
+// How many bytes a number tells.
+fn yield_size(y: Yield) -> usize
+    ensures { λ r. ⌜ r ≡ length (grouped (listed y)) ⌝ }
 {
-    match yield_of(s, b) {
+    match y {
         Yield::Nothing => 0,
         Yield::Number(v) => numbers::groups_size(v),
     }
 }
 
-// What a byte of text tells, from a place on; the place after it.
-fn put_told(out: &mut [u8], at: usize, s: Text, b: u8) -> usize
-    requires { ⌜ at + length (tell s b) ≤ length (now out) ⌝ }
-    ensures { λ r. ⌜ (r ≡ at + length (tell s b)) × (now (out .exit) ≡ sets (now (out .entry)) at (tell s b)) ⌝ }
+// What a number tells, from a place on; the place after it.
+fn put_yield(out: &mut [u8], at: usize, y: Yield) -> usize
+    requires { ⌜ at + length (grouped (listed y)) ≤ length (now out) ⌝ }
+    ensures { λ r. ⌜ (r ≡ at + length (grouped (listed y))) × (now (out .exit) ≡ sets (now (out .entry)) at (grouped (listed y))) ⌝ }
 {
-    match yield_of(s, b) {
+    match y {
         Yield::Nothing => at,
         Yield::Number(v) => numbers::put_groups(out, at, v),
+    }
+}
+
+fn fresh_end(p: Part, left: usize) -> u8
+    ensures { λ r. ⌜ r ≡ freshEnd p left ⌝ }
+{
+    match p {
+        Part::Fresh => listing::separator_of(left),
+        Part::Minus => 0,
+        Part::Closed(_) => 0,
+        Part::Open(_) => 0,
+    }
+}
+
+// The byte that ends a number which is to begin here; 0 where none is.
+fn number_end(s: Text) -> u8
+    ensures { λ r. ⌜ r ≡ numberEnd s ⌝ }
+{
+    match s {
+        Text::Line(_) => 32,
+        Text::Row(_, left, p) => fresh_end(p, left),
+        Text::Word(_, _) => 0,
+        Text::Last(_, left, p) => fresh_end(p, left),
+        Text::End(_) => 0,
+        Text::Stop(_) => 0,
+    }
+}
+
+// After a whole number.
+fn number_on(s: Text, v: usize) -> Text
+    ensures { λ r. ⌜ r ≡ numbered s v ⌝ }
+{
+    match s {
+        Text::Line(rows) => row_on(rows, 8, Next::Ended(v)),
+        Text::Row(rows, left, _) => row_on(rows, left, Next::Ended(v)),
+        Text::Word(rows, at) => Text::Word(rows, at),
+        Text::Last(rows, left, _) => last_on(rows, left, Next::Ended(v)),
+        Text::End(rows) => Text::End(rows),
+        Text::Stop(e) => Text::Stop(e),
+    }
+}
+
+// Goes on from a byte: by a whole number where one stands, else by that byte.
+fn turn(text: &[u8], s: Text, i: usize) -> Turn
+    requires { ⌜ i < length (now text) ⌝ }
+    ensures { λ r. ⌜ Moves step tell (now (text .entry)) s i (grouped (listed (r .told))) (r .next) (r .end) ⌝ }
+{
+    let sep = number_end(s);
+    if sep != 0 {
+        let n = at_once::number_at(text, i, sep);
+        if i < n.end {
+            return Turn {
+                next: number_on(s, n.stored),
+                told: Yield::Number(n.stored),
+                end: n.end,
+            };
+        }
+    }
+    let b = text[i];
+    Turn {
+        next: step_on(s, b),
+        told: yield_of(s, b),
+        end: i + 1,
     }
 }
 
@@ -248,10 +315,11 @@ pub fn measure(listing: &[u8], room: usize) -> TextSeen
     let mut size = 0;
     let mut i = 0;
     while i < listing.len() {
-        let b = listing[i];
-        size = numbers::capped(size, tell_size(s, b), room);
-        s = step_on(s, b);
-        i += 1;
+        let t = turn(listing, s, i);
+        let told = t.told;
+        size = numbers::capped(size, yield_size(told), room);
+        s = t.next;
+        i = t.end;
     }
     TextSeen { end: s, size }
 }
@@ -265,9 +333,10 @@ pub fn write(listing: &[u8], out: &mut [u8], at: usize)
     let mut to = at;
     let mut i = 0;
     while i < listing.len() {
-        let b = listing[i];
-        to = put_told(out, to, s, b);
-        s = step_on(s, b);
-        i += 1;
+        let t = turn(listing, s, i);
+        let told = t.told;
+        to = put_yield(out, to, told);
+        s = t.next;
+        i = t.end;
     }
 }

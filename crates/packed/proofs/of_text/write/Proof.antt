@@ -5,9 +5,10 @@ use borrow.Author.Needs.{needs}
 use lib.ListN.{length, drop}
 use lib.Seq.{sets}
 use Rattle.packed.specs.Machine.{told}
-use Rattle.packed.specs.Text.{step, tell}
+use Rattle.listing.specs.Listing.{grouped}
+use Rattle.packed.specs.Text.{listed, step, tell}
 use Rattle.listing.proofs.Left.{Left, begin}
-use Rattle.packed.proofs.Passes.{writing-room, writing-more, writing-all}
+use Rattle.packed.proofs.Passes.{front-of, writing-on, writing-all}
 use Rattle.packed.proofs.of_text.write.Statement.{statement}
 use Rattle.packed.proofs.of_text.write.Tie as tie
 
@@ -26,15 +27,21 @@ write-spec =
     Inv-loop
     μ-loop
     (λ c. (begin (c .before .before .pre), omega arith))  -- loop-holds
-    (λ c. search needs)  -- shared-slice-read-b
-    (λ c κs. writing-room step tell (c .before .before .before .before .before .before .args .listing .now) (c .before .before .before .loop .s) (c .before .before .before .loop .i) (c .before .before .loop-test .taken) (c .before .before .before .loop .inv .0))  -- put-told-requires
-    (λ c κs. search needs)  -- step-on-requires
-    (λ c. omega (arith, c .before .before .before .before .before .before .loop-test))  -- add-i
-    (λ c. omega (arith, c .before .before .before .before .before .before .loop-test))  -- loop-less
-    (λ c. (
-      writing-more step tell (c .before .before .before .before .before .before .before .before .before .before .args .listing .now) (c .before .before .before .before .before .before .before .loop .s) (c .before .before .before .before .before .before .before .loop .i) (c .before .before .before .before .before .before .loop-test .taken) (c .before .before .before .before .before .before .before .loop .inv .0) (c .before .before .before .put-told .ensures)
-          (c .step-on .ensures),
-      omega (arith, c .before .before .before .before .before .before .loop-test),
+    (λ c κs. search needs)  -- turn-requires
+    (λ c κs.
+    let t = c .before .turn in
+    let l = c .before .before .before .loop in
+    let s = c .before .before .before .before .before .before in
+    front-of step tell (s .args .listing .now) (l .s) (l .i) (grouped (listed (t .result .told))) (t .result .next) (t .result .end) (l .inv .0) (t .ensures))  -- put-yield-requires
+    (λ c.
+    let t = c .before .before .before .before .turn in
+    omega (arith, t .ensures .forward, t .ensures .within))  -- loop-less
+    (λ c.
+    let t = c .before .before .before .before .turn in
+    let l = c .before .before .before .before .before .before .loop in
+    let s = c .before .before .before .before .before .before .before .before .before in (
+      writing-on step tell (s .args .listing .now) (l .s) (l .i) (grouped (listed (t .result .told))) (t .result .next) (t .result .end) (l .inv .0) (t .ensures) (c .before .before .put-yield .ensures),
+      t .ensures .within,
     ))  -- loop-again
     (λ c. c .before .loop .inv .0 .long)  -- same-length
     (λ c. writing-all step tell (c .before .before .before .before .args .listing .now) (c .before .loop .s) (c .before .loop .i) (c .loop-test .left) (c .before .loop .inv .0)))  -- returns

@@ -34,7 +34,10 @@ fn listings_and_their_packed_forms() {
         ("audio 0 0 0\n", "0101010101"),
         ("audio -1 126 127\n", "0101007f8001"),
         ("refused 7 0 0 0 -1\n", "01020801010100"),
-        ("1 2 3 4 5 6 7 8 -1\naudio 1 2 3\n", "0202030405060708090001020304"),
+        (
+            "1 2 3 4 5 6 7 8 -1\naudio 1 2 3\n",
+            "0202030405060708090001020304",
+        ),
         (
             "0 0 0 0 0 0 0 0 0\n0 0 0 0 0 0 0 0 0\naudio 0 0 0\n",
             "0301010101010101010101010101010101010101010101",
@@ -205,7 +208,11 @@ fn slipped_pack(slip: &str, text: &[u8]) -> Made {
         _ => 2_147_483_647,
     };
     let (mut at, mut rows, mut numbers, mut row_count) = (0, Vec::new(), Vec::new(), 0i64);
-    let end = if is("an end after a row is malformed") { 40 } else { 43 };
+    let end = if is("an end after a row is malformed") {
+        40
+    } else {
+        43
+    };
     let word = loop {
         if is("an empty line passed over") && text.get(at) == Some(&b'\n') {
             at += 1;
@@ -213,16 +220,32 @@ fn slipped_pack(slip: &str, text: &[u8]) -> Made {
         }
         let Some(first) = text.get(at) else {
             let empty = is("an empty text is malformed") && text.is_empty();
-            return Err(if empty || row_count > 0 && end == 40 { 40 } else { 43 });
+            return Err(if empty || row_count > 0 && end == 40 {
+                40
+            } else {
+                43
+            });
         };
         let (word, count) = match first {
-            b'a' => (&b"audio"[..], if is("audio with five numbers") { 5 } else { 3 }),
-            b'r' => (&b"refused"[..], if is("refused with three numbers") { 3 } else { 5 }),
+            b'a' => (
+                &b"audio"[..],
+                if is("audio with five numbers") { 5 } else { 3 },
+            ),
+            b'r' => (
+                &b"refused"[..],
+                if is("refused with three numbers") {
+                    3
+                } else {
+                    5
+                },
+            ),
             _ if is("ten numbers to a row") => (&b""[..], 10),
             _ if is("eight numbers to a row") => (&b""[..], 8),
             _ => (&b""[..], 9),
         };
-        let letters = word.iter().chain(if word.is_empty() { &b""[..] } else { b" " });
+        let letters = word
+            .iter()
+            .chain(if word.is_empty() { &b""[..] } else { b" " });
         for (i, letter) in letters.enumerate() {
             match text.get(at) {
                 None => return Err(43),
@@ -266,8 +289,16 @@ fn slipped_pack(slip: &str, text: &[u8]) -> Made {
     for (i, number) in all.concat().into_iter().enumerate() {
         let mut stored = number + i64::from(!is("numbers not stored plus one"));
         let mut groups = Vec::new();
-        let (base, bit) = if is("groups of eight bits") { (256, 0) } else { (128, 128) };
-        let least = if is("127 stored in two groups") { 127 } else { base };
+        let (base, bit) = if is("groups of eight bits") {
+            (256, 0)
+        } else {
+            (128, 128)
+        };
+        let least = if is("127 stored in two groups") {
+            127
+        } else {
+            base
+        };
         if is("the row count in one group") && i == 0 {
             stored %= base;
         }
@@ -284,25 +315,43 @@ fn slipped_pack(slip: &str, text: &[u8]) -> Made {
     Ok(packed)
 }
 
-fn slipped_number(slip: &str, text: &[u8], at: &mut usize, ends: u8, greatest: i64) -> Result<i64, usize> {
+fn slipped_number(
+    slip: &str,
+    text: &[u8],
+    at: &mut usize,
+    ends: u8,
+    greatest: i64,
+) -> Result<i64, usize> {
     let is = |other: &str| slip == other;
-    let early = if is("an end within a number is malformed") { 40 } else { 43 };
+    let early = if is("an end within a number is malformed") {
+        40
+    } else {
+        43
+    };
     let (mut value, mut digits, mut minus, mut late) = (0i64, 0, false, false);
     loop {
         let Some(byte) = text.get(*at) else {
             let whole = is("a last line feed not wanted") && ends == b'\n' && digits > 0;
-            return if whole { Ok(if minus { -value } else { value }) } else { Err(if digits > 0 || minus { early } else { 43 }) };
+            return if whole {
+                Ok(if minus { -value } else { value })
+            } else {
+                Err(if digits > 0 || minus { early } else { 43 })
+            };
         };
         *at += 1;
         match byte {
             b'-' if digits == 0 && !minus => minus = true,
             b'+' if digits == 0 && is("a plus sign taken") => {}
-            b'\r' if digits > 0 && is("a carriage return taken") && text.get(*at) == Some(&b'\n') => {}
+            b'\r'
+                if digits > 0 && is("a carriage return taken") && text.get(*at) == Some(&b'\n') => {
+            }
             b'0'..=b'9' => {
                 if digits > 0 && value == 0 && !is("leading zeros taken") {
                     return Err(40);
                 }
-                value = value.saturating_mul(10).saturating_add(i64::from(byte - b'0'));
+                value = value
+                    .saturating_mul(10)
+                    .saturating_add(i64::from(byte - b'0'));
                 digits += 1;
                 if minus {
                     let taken = match value {
@@ -324,7 +373,10 @@ fn slipped_number(slip: &str, text: &[u8], at: &mut usize, ends: u8, greatest: i
                     }
                 }
             }
-            _ if digits > 0 && (*byte == ends || ends == b' ' && *byte == b'\t' && is("a tab taken for a space")) => {
+            _ if digits > 0
+                && (*byte == ends
+                    || ends == b' ' && *byte == b'\t' && is("a tab taken for a space")) =>
+            {
                 let value = if minus { -value } else { value };
                 return if late { Err(42) } else { Ok(value) };
             }
@@ -346,7 +398,11 @@ fn slipped_unpack(slip: &str, packed: &[u8]) -> Made {
         };
         loop {
             let Some(byte) = packed.get(at) else {
-                return Err(if is("an end between numbers is left over") && which == 0 { 44 } else { 43 });
+                return Err(if is("an end between numbers is left over") && which == 0 {
+                    44
+                } else {
+                    43
+                });
             };
             at += 1;
             let group = match slip {
@@ -365,7 +421,9 @@ fn slipped_unpack(slip: &str, packed: &[u8]) -> Made {
             if *byte < 128 {
                 break;
             }
-            if which == 5 && is("too large after five groups of 0x80") || which == 6 && is("at most five groups") {
+            if which == 5 && is("too large after five groups of 0x80")
+                || which == 6 && is("at most five groups")
+            {
                 return Err(42);
             }
         }
@@ -375,8 +433,12 @@ fn slipped_unpack(slip: &str, packed: &[u8]) -> Made {
             match slip {
                 "a needless group taken" => {}
                 "a needless group is too large" => return Err(42),
-                "a needless group in the row count is wrong" if before == 0 && stored == 0 => return Err(46),
-                "a needless group of audio or refused is wrong" if before == 1 && packed[0] == 1 && ![1, 2].contains(&stored) => {
+                "a needless group in the row count is wrong" if before == 0 && stored == 0 => {
+                    return Err(46)
+                }
+                "a needless group of audio or refused is wrong"
+                    if before == 1 && packed[0] == 1 && ![1, 2].contains(&stored) =>
+                {
                     return Err(46)
                 }
                 _ => return Err(41),
@@ -399,13 +461,22 @@ fn slipped_unpack(slip: &str, packed: &[u8]) -> Made {
     };
     let mut text = String::new();
     for _ in 0..rows {
-        let row = (0..9).map(|_| Ok(shown(next()?))).collect::<Result<Vec<_>, usize>>()?;
+        let row = (0..9)
+            .map(|_| Ok(shown(next()?)))
+            .collect::<Result<Vec<_>, usize>>()?;
         text += &(row.join(" ") + "\n");
     }
     let (mut wrong, kind) = (false, next()?);
     let (word, count) = match kind {
         0 => ("audio", if is("audio with five numbers") { 5 } else { 3 }),
-        1 => ("refused", if is("refused with three numbers") { 3 } else { 5 }),
+        1 => (
+            "refused",
+            if is("refused with three numbers") {
+                3
+            } else {
+                5
+            },
+        ),
         -1 if is("audio or refused -1 taken") => ("audio", 3),
         2 if is("audio or refused 2 taken") => ("refused", 5),
         _ if is("audio or refused told after its numbers") => {
@@ -414,7 +485,9 @@ fn slipped_unpack(slip: &str, packed: &[u8]) -> Made {
         }
         _ => return Err(46),
     };
-    let last = (0..count).map(|_| Ok(shown(next()?))).collect::<Result<Vec<_>, usize>>()?;
+    let last = (0..count)
+        .map(|_| Ok(shown(next()?)))
+        .collect::<Result<Vec<_>, usize>>()?;
     text += &format!("{word} {}\n", last.join(" "));
     let left = &packed[at..];
     match slip {

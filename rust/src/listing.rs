@@ -13,7 +13,7 @@
 //! assert_eq!(unpack(&packed)?, text);
 //!
 //! assert_eq!(pack(b"audio 01 2 3\n"), Err(Refusal::Malformed));
-//! assert_eq!(unpack(&packed[1..]), Err(Refusal::Ends)); // the next number is taken for the count of rows
+//! assert_eq!(unpack(&packed[..16]), Err(Refusal::Ends));
 //! # Ok::<(), Refusal>(())
 //! ```
 

@@ -8,14 +8,14 @@ mod layout;
 use ferrysprig::burst::{self, Refusal};
 use ferrysprig::profile::{Profile, Rule};
 use ferrysprig::{aht, blocks_into, edit, header, listing, parse, salvage, Field, Role};
-use ferrysprig::{NAMES, REFUSALS};
 use ferrysprig::{LEAST_BYTES, MOST_BYTES, MOST_HEADER_ROWS, MOST_ROWS, ROW_NUMBERS};
+use ferrysprig::{NAMES, REFUSALS};
 use files::text;
+use layout::SALVAGE_ANSWER_NUMBERS;
 use layout::{aht_answer_at, answer_at, burst_answer_at, entry_at, header_answer_at};
 use layout::{kind, pack_answer_at, profile_answer_at, row_at, salvage_answer_at};
 use layout::{AHT_ANSWER_NUMBERS, ANSWER_NUMBERS, BURST_ANSWER_NUMBERS, ENTRY_NUMBERS};
 use layout::{HEADER_ANSWER_NUMBERS, PACK_ANSWER_NUMBERS, PROFILE_ANSWER_NUMBERS};
-use layout::SALVAGE_ANSWER_NUMBERS;
 
 #[test]
 fn names_are_those_of_the_list() {

@@ -16,11 +16,18 @@ fn listing(stream: &[u8], rows: usize) -> String {
             (rows, last)
         }
         Err(OfFrame {
-            number, bit, rows, unfit, ..
+            number,
+            bit,
+            rows,
+            unfit,
+            ..
         }) => {
             let (name, block) = unfit.map_or((0, -1), |unfit| (number_of(unfit.name), unfit.block));
             let count = rows.len();
-            (count, format!("refused {number} {count} {bit} {name} {block}\n"))
+            (
+                count,
+                format!("refused {number} {count} {bit} {name} {block}\n"),
+            )
         }
     };
     let mut text = String::new();
@@ -112,7 +119,10 @@ fn refusals_of_packed_forms() {
 
 #[test]
 fn lent_room() {
-    let (text, packed) = (b"audio 1 128 2147483647\n", [1, 1, 2, 0x81, 1, 0x80, 0x80, 0x80, 0x80, 8]);
+    let (text, packed) = (
+        b"audio 1 128 2147483647\n",
+        [1, 1, 2, 0x81, 1, 0x80, 0x80, 0x80, 0x80, 8],
+    );
     let mut out = [MARK; 40];
     assert_eq!(pack_into(text, &mut out[..9]), Err(Refusal::NoRoom));
     assert_eq!(unpack_into(&packed, &mut out[..22]), Err(Refusal::NoRoom));

@@ -175,7 +175,11 @@ fn several(packed: &[u8], begin: usize) -> Result<(u64, usize), usize> {
             return Err(42);
         }
         if byte < 128 {
-            return if byte == 0 { Err(41) } else { Ok((value, begin + which + 1)) };
+            return if byte == 0 {
+                Err(41)
+            } else {
+                Ok((value, begin + which + 1))
+            };
         }
     }
     Err(43)

@@ -32,26 +32,60 @@ pub struct Case<'a> {
 
 /// An output that nothing was written to yet: no byte is that of its neighbours.
 pub fn fresh(room: usize) -> Vec<u8> {
-    (0..room).map(|i| (i as u8).wrapping_mul(37) ^ 0xA5).collect()
+    (0..room)
+        .map(|i| (i as u8).wrapping_mul(37) ^ 0xA5)
+        .collect()
 }
 
 /// The numbers at which a further digit or group begins, their neighbours, and the ends.
 const EDGES: [i64; 28] = [
-    -1, 0, 1, 9, 10, 99, 100, 126, 127, 128, 129, 999, 1000, 16_382, 16_383, 16_384, 65_535, 65_536, 2_097_150,
-    2_097_151, 2_097_152, 268_435_454, 268_435_455, 268_435_456, 999_999_999, 1_000_000_000, 2_147_483_646,
+    -1,
+    0,
+    1,
+    9,
+    10,
+    99,
+    100,
+    126,
+    127,
+    128,
+    129,
+    999,
+    1000,
+    16_382,
+    16_383,
+    16_384,
+    65_535,
+    65_536,
+    2_097_150,
+    2_097_151,
+    2_097_152,
+    268_435_454,
+    268_435_455,
+    268_435_456,
+    999_999_999,
+    1_000_000_000,
+    2_147_483_646,
     GREATEST,
 ];
 
 /// Texts in a number's place that are no number of the form.
 const NO_NUMBERS: [&[u8]; 24] = [
-    b"", b"-", b"-0", b"-00", b"-2", b"-5", b"-10", b"-11", b"--1", b"- 1", b"00", b"01", b"007", b"+0", b"+1", b" 1", b"1 ", b"1\t", b"1\r",
-    b"0x1", b"1.0", b"1,000", b"a", b"\x00",
+    b"", b"-", b"-0", b"-00", b"-2", b"-5", b"-10", b"-11", b"--1", b"- 1", b"00", b"01", b"007",
+    b"+0", b"+1", b" 1", b"1 ", b"1\t", b"1\r", b"0x1", b"1.0", b"1,000", b"a", b"\x00",
 ];
 
 /// Texts in its place that are too large.
 const LARGE: [&[u8]; 9] = [
-    b"2147483648", b"2147483650", b"3000000000", b"4294967295", b"4294967296", b"9999999999", b"18446744073709551615",
-    b"18446744073709551616", b"99999999999999999999999999999999999999999999999999999999",
+    b"2147483648",
+    b"2147483650",
+    b"3000000000",
+    b"4294967295",
+    b"4294967296",
+    b"9999999999",
+    b"18446744073709551615",
+    b"18446744073709551616",
+    b"99999999999999999999999999999999999999999999999999999999",
 ];
 
 /// Packed numbers, right ones and wrong ones; what is refused of the wrong ones.
@@ -81,14 +115,33 @@ const STORED: [(&[u8], usize); 40] = [
     // The group that makes it too large comes before one that is needless.
     (&[0x81, 0x80, 0x80, 0x80, 0x88, 0x00], TOO_LARGE),
     (&[0xFF, 0xFF, 0xFF, 0xFF, 0xFF, 0x00], TOO_LARGE),
-    (&[0xFF, 0xFF, 0xFF, 0xFF, 0xFF, 0xFF, 0xFF, 0xFF, 0xFF, 0x01], TOO_LARGE),
+    (
+        &[0xFF, 0xFF, 0xFF, 0xFF, 0xFF, 0xFF, 0xFF, 0xFF, 0xFF, 0x01],
+        TOO_LARGE,
+    ),
     // Six groups, of which the last alone is not 0; ten, so that a shift of 64 bits or more would lose it.
     (&[0x80, 0x80, 0x80, 0x80, 0x80, 0x01], TOO_LARGE),
     (&[0x80, 0x80, 0x80, 0x80, 0x80, 0x81, 0x00], TOO_LARGE),
-    (&[0x80, 0x80, 0x80, 0x80, 0x80, 0x80, 0x80, 0x80, 0x80, 0x01], TOO_LARGE),
-    (&[0x80, 0x80, 0x80, 0x80, 0x80, 0x80, 0x80, 0x80, 0x80, 0x02], TOO_LARGE),
-    (&[0x80, 0x80, 0x80, 0x80, 0x80, 0x80, 0x80, 0x80, 0x80, 0x80, 0x01], TOO_LARGE),
-    (&[0x81, 0x80, 0x80, 0x80, 0x80, 0x80, 0x80, 0x80, 0x80, 0x80, 0x80, 0x80, 0x80, 0x01], TOO_LARGE),
+    (
+        &[0x80, 0x80, 0x80, 0x80, 0x80, 0x80, 0x80, 0x80, 0x80, 0x01],
+        TOO_LARGE,
+    ),
+    (
+        &[0x80, 0x80, 0x80, 0x80, 0x80, 0x80, 0x80, 0x80, 0x80, 0x02],
+        TOO_LARGE,
+    ),
+    (
+        &[
+            0x80, 0x80, 0x80, 0x80, 0x80, 0x80, 0x80, 0x80, 0x80, 0x80, 0x01,
+        ],
+        TOO_LARGE,
+    ),
+    (
+        &[
+            0x81, 0x80, 0x80, 0x80, 0x80, 0x80, 0x80, 0x80, 0x80, 0x80, 0x80, 0x80, 0x80, 0x01,
+        ],
+        TOO_LARGE,
+    ),
     // Needless groups.
     (&[0x80, 0x00], NEEDLESS),
     (&[0x81, 0x00], NEEDLESS),
@@ -100,7 +153,10 @@ const STORED: [(&[u8], usize); 40] = [
     (&[0x80, 0x80, 0x80, 0x80, 0x88, 0x00], NEEDLESS),
     (&[0x80, 0x80, 0x80, 0x80, 0x80, 0x00], NEEDLESS),
     (&[0x80, 0x80, 0x80, 0x80, 0x88, 0x80, 0x00], NEEDLESS),
-    (&[0x80, 0x80, 0x80, 0x80, 0x80, 0x80, 0x80, 0x80, 0x80, 0x00], NEEDLESS),
+    (
+        &[0x80, 0x80, 0x80, 0x80, 0x80, 0x80, 0x80, 0x80, 0x80, 0x00],
+        NEEDLESS,
+    ),
 ];
 
 /// Lengths of chains of 0x80: at each the shifts of some width come to an end.
@@ -187,7 +243,13 @@ impl<'s> Packs<'s> {
     }
 
     /// One call, held against what was derived.
-    fn held(&mut self, way: Way, input: &[u8], room: usize, derived: &Result<Vec<u8>, usize>) -> PackAnswer {
+    fn held(
+        &mut self,
+        way: Way,
+        input: &[u8],
+        room: usize,
+        derived: &Result<Vec<u8>, usize>,
+    ) -> PackAnswer {
         let mut out = fresh(room);
         let told = match way {
             Pack => pack(input, &mut out),
@@ -205,7 +267,10 @@ impl<'s> Packs<'s> {
         }
         if (&out, told) != (&expected.0, expected.1) {
             let input = hex::of(input);
-            panic!("{way:?} {input}: {told:?}, {:?} is derived, or the bytes differ", expected.1);
+            panic!(
+                "{way:?} {input}: {told:?}, {:?} is derived, or the bytes differ",
+                expected.1
+            );
         }
         *self.refused.entry((way, told[0])).or_default() += 1;
         if room == 0 {
@@ -222,7 +287,11 @@ impl<'s> Packs<'s> {
 
     /// In some room, mostly an ample one; the refusal, 0 for none.
     fn refusal(&mut self, way: Way, input: &[u8]) -> usize {
-        let ample = 4 * input.len() + self.rng.below(8);
+        let most = match way {
+            Pack => input.len(),
+            Unpack => 4 * input.len(),
+        };
+        let ample = most + self.rng.below(8);
         let room = if self.rng.chance(10) { 0 } else { ample };
         let [refusal, _] = self.ask(way, input, room);
         match refusal {
@@ -304,8 +373,14 @@ impl<'s> Packs<'s> {
         self.changed_at(way, input, 0..input.len());
         self.lengthened(way, input);
         for what in match way {
-            Pack => ["a text cut at every byte", "a byte changed at every place of a text"],
-            Unpack => ["a packed form cut at every byte", "a byte changed at every place of a packed form"],
+            Pack => [
+                "a text cut at every byte",
+                "a byte changed at every place of a text",
+            ],
+            Unpack => [
+                "a packed form cut at every byte",
+                "a byte changed at every place of a packed form",
+            ],
         } {
             self.name(what);
         }
@@ -333,7 +408,11 @@ impl<'s> Packs<'s> {
             let whole = answer(&stream, 0, &mut room);
             let short = self.rng.below(whole.rows.max(1));
             let cut = self.rng.below(60);
-            for (bytes, rows) in [(stream.len(), MANY_ROWS), (stream.len(), short), (cut, MANY_ROWS)] {
+            for (bytes, rows) in [
+                (stream.len(), MANY_ROWS),
+                (stream.len(), short),
+                (cut, MANY_ROWS),
+            ] {
                 let mut room = vec![0; ROW * rows];
                 let told = answer(&stream[..bytes], 0, &mut room);
                 let text = listing::listing(&told, &room).into_bytes();
@@ -349,7 +428,8 @@ impl<'s> Packs<'s> {
                     if input.len() < 300 {
                         self.changed_everywhere(way, input);
                     } else {
-                        let places: Vec<usize> = (0..size).map(|_| self.rng.below(input.len())).collect();
+                        let places: Vec<usize> =
+                            (0..size).map(|_| self.rng.below(input.len())).collect();
                         self.changed_at(way, input, places.into_iter());
                     }
                 }
@@ -366,7 +446,9 @@ impl<'s> Packs<'s> {
             (told.number() == 0).then(|| listing::listing(&told, &room).into_bytes())
         });
         let text = listings.min_by_key(Vec::len).expect("an accepted frame");
-        let packed = super::read_text(&text).expect("the judge's own listing").packed();
+        let packed = super::read_text(&text)
+            .expect("the judge's own listing")
+            .packed();
         self.changed_everywhere(Pack, &text);
         self.changed_everywhere(Unpack, &packed);
     }
@@ -452,7 +534,8 @@ impl<'s> Packs<'s> {
     fn texts_by_place(&mut self) {
         for word in [AUDIO, REFUSED] {
             let pieces = self.text_pieces(word);
-            let numbers = (0..pieces.len()).filter(|at| pieces[*at][0].is_ascii_digit() || pieces[*at][0] == b'-');
+            let numbers = (0..pieces.len())
+                .filter(|at| pieces[*at][0].is_ascii_digit() || pieces[*at][0] == b'-');
             let numbers: Vec<usize> = numbers.collect();
             assert_eq!(numbers.len(), 2 * ROW + word.numbers);
             for at in numbers {
@@ -474,7 +557,12 @@ impl<'s> Packs<'s> {
                 }
                 self.name("a number too large at every place");
                 // The text ends with the number: so far it may be right, wrong or too large.
-                for (text, refusal) in [("-", ENDS), ("2147483647", ENDS), ("-0", MALFORMED), ("2147483648", TOO_LARGE)] {
+                for (text, refusal) in [
+                    ("-", ENDS),
+                    ("2147483647", ENDS),
+                    ("-0", MALFORMED),
+                    ("2147483648", TOO_LARGE),
+                ] {
                     let front = pieces[..at].concat();
                     self.faulty(Pack, &[&front, text.as_bytes()].concat(), refusal);
                 }
@@ -549,7 +637,9 @@ impl<'s> Packs<'s> {
         for _ in 0..200 * size {
             let word = self.rng.pick(&[AUDIO, REFUSED]);
             let mut text = self.text_pieces(word);
-            let mut places: Vec<usize> = (0..text.len()).filter(|at| text[*at].len() > 1 || text[*at][0] > b' ').collect();
+            let mut places: Vec<usize> = (0..text.len())
+                .filter(|at| text[*at].len() > 1 || text[*at][0] > b' ')
+                .collect();
             places.retain(|at| text[*at][0] < b'a');
             let first = self.rng.below(places.len() - 1);
             let second = first + 1 + self.rng.below(places.len() - first - 1);
@@ -607,14 +697,25 @@ impl<'s> Packs<'s> {
         self.all_short(Pack, b"", &every, 1);
         self.all_short(Unpack, b"", &every, 2);
         self.all_short(Unpack, &[0x01, 0x01, 0x05, 0x05], &every, 1);
-        for front in [&b""[..], b"audio 1 2 ", b"refused 1 2 3 4 ", b"1 2 3 4 5 6 7 8 ", b"1 2 3 4 5 6 7 8 9\n"] {
+        for front in [
+            &b""[..],
+            b"audio 1 2 ",
+            b"refused 1 2 3 4 ",
+            b"1 2 3 4 5 6 7 8 ",
+            b"1 2 3 4 5 6 7 8 9\n",
+        ] {
             self.all_short(Pack, front, b"-019 \na", 4);
         }
         for front in [&b"aud"[..], b"refuse"] {
             self.all_short(Pack, front, b"io d\n", 4);
         }
         self.all_short(Unpack, &[], &[0x00, 0x01, 0x02, 0x80, 0x81], 6);
-        self.all_short(Unpack, &[0x01, 0x02, 0x80, 0x80, 0x80], &[0x00, 0x01, 0x07, 0x08, 0x80, 0x88], 4);
+        self.all_short(
+            Unpack,
+            &[0x01, 0x02, 0x80, 0x80, 0x80],
+            &[0x00, 0x01, 0x07, 0x08, 0x80, 0x88],
+            4,
+        );
     }
 
     /// Words that are almost those of a last line, in its place, and lines in another order.
@@ -655,8 +756,14 @@ impl<'s> Packs<'s> {
         for _ in 0..500 * size {
             let length = self.rng.below(40);
             let any = self.rng.bytes(length);
-            let text: Vec<u8> = any.iter().map(|b| TEXT_BYTES[usize::from(*b) % 8]).collect();
-            let packed: Vec<u8> = any.iter().map(|b| PACKED_BYTES[usize::from(*b) % 16]).collect();
+            let text: Vec<u8> = any
+                .iter()
+                .map(|b| TEXT_BYTES[usize::from(*b) % 8])
+                .collect();
+            let packed: Vec<u8> = any
+                .iter()
+                .map(|b| PACKED_BYTES[usize::from(*b) % 16])
+                .collect();
             self.refusal(Pack, &text);
             self.refusal(Unpack, &packed);
             self.refusal(Pack, &any);
@@ -680,8 +787,14 @@ impl<'s> Packs<'s> {
     /// What was to be reached and was not, or was and cannot be.
     pub fn missed(&self) -> Vec<String> {
         let possible = [
-            (Pack, vec![0, MALFORMED, TOO_LARGE, ENDS, LEFT_OVER, NO_ROOM]),
-            (Unpack, vec![0, NEEDLESS, TOO_LARGE, ENDS, LEFT_OVER, NO_ROOM, WRONG]),
+            (
+                Pack,
+                vec![0, MALFORMED, TOO_LARGE, ENDS, LEFT_OVER, NO_ROOM],
+            ),
+            (
+                Unpack,
+                vec![0, NEEDLESS, TOO_LARGE, ENDS, LEFT_OVER, NO_ROOM, WRONG],
+            ),
         ];
         let mut missed = Vec::new();
         for (way, refusals) in &possible {
@@ -690,7 +803,9 @@ impl<'s> Packs<'s> {
                     missed.push(format!("{way:?} with {refusal} was not reached"));
                 }
                 if *refusal > 0 && !self.roomless.contains_key(&(*way, *refusal)) {
-                    missed.push(format!("{way:?} with {refusal} and no room was not reached"));
+                    missed.push(format!(
+                        "{way:?} with {refusal} and no room was not reached"
+                    ));
                 }
             }
         }
@@ -700,7 +815,9 @@ impl<'s> Packs<'s> {
             }
         }
         for (way, refusal) in self.refused.keys() {
-            let can = possible.iter().any(|(w, refusals)| w == way && refusals.contains(refusal));
+            let can = possible
+                .iter()
+                .any(|(w, refusals)| w == way && refusals.contains(refusal));
             if !can {
                 missed.push(format!("{way:?} with {refusal} cannot be, and was"));
             }

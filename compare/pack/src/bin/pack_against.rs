@@ -56,7 +56,9 @@ fn main() {
     packs.run(size);
     for way in [Way::Pack, Way::Unpack] {
         let counts = packs.refused.iter().filter(|((w, _), _)| *w == way);
-        let counts: Vec<String> = counts.map(|((_, n), times)| format!("{n}: {times}")).collect();
+        let counts: Vec<String> = counts
+            .map(|((_, n), times)| format!("{n}: {times}"))
+            .collect();
         println!("{way:?} by refusal (0: none): {}", counts.join(", "));
     }
     for (what, times) in &packs.named {
@@ -65,7 +67,9 @@ fn main() {
     let missed = packs.missed();
     missed.iter().for_each(|what| println!("MISSED {what}"));
     let (calls, accepted) = (packs.calls(), packs.bytes);
-    println!("{calls} calls and {bytes} bytes of output compared, {accepted} bytes of listings taken");
+    println!(
+        "{calls} calls and {bytes} bytes of output compared, {accepted} bytes of listings taken"
+    );
     println!("{differences} differences");
     std::process::exit((differences > 0 || !missed.is_empty()) as i32);
 }

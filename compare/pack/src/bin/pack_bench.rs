@@ -24,7 +24,9 @@ fn text(name: &str) -> Vec<u8> {
         let told = answer(stream, place, &mut room);
         let bytes = told.verdict.as_ref().expect("an accepted frame").bytes;
         end = last_line(&told) + "\n";
-        text += listing(&told, &room).strip_suffix(&end).expect("a last line");
+        text += listing(&told, &room)
+            .strip_suffix(&end)
+            .expect("a last line");
         place += bytes;
     }
     (text + &end).into_bytes()
@@ -67,17 +69,28 @@ fn main() {
     let mut out = vec![0u8; text.len()];
     let mut same = true;
     if wanted("pack") {
-        same &= best("pack", passes, text.len(), &mut out, |out| raw::pack(black_box(&text), out).0) == packed;
+        same &= best("pack", passes, text.len(), &mut out, |out| {
+            raw::pack(black_box(&text), out).0
+        }) == packed;
     }
     if wanted("pack-by-hand") {
-        same &= best("pack-by-hand", passes, text.len(), &mut out, |out| by_hand::pack(black_box(&text), out)) == packed;
+        same &= best("pack-by-hand", passes, text.len(), &mut out, |out| {
+            by_hand::pack(black_box(&text), out)
+        }) == packed;
     }
     if wanted("unpack") {
-        same &= best("unpack", passes, text.len(), &mut out, |out| raw::unpack(black_box(&packed), out).0) == text;
+        same &= best("unpack", passes, text.len(), &mut out, |out| {
+            raw::unpack(black_box(&packed), out).0
+        }) == text;
     }
     if wanted("unpack-by-hand") {
-        same &= best("unpack-by-hand", passes, text.len(), &mut out, |out| by_hand::unpack(black_box(&packed), out)) == text;
+        same &= best("unpack-by-hand", passes, text.len(), &mut out, |out| {
+            by_hand::unpack(black_box(&packed), out)
+        }) == text;
     }
-    println!("{} bytes packed; all ways give the same: {same}", packed.len());
+    println!(
+        "{} bytes packed; all ways give the same: {same}",
+        packed.len()
+    );
     std::process::exit(i32::from(!same));
 }

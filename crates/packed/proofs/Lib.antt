@@ -1,0 +1,15 @@
+pub mod Groups
+pub mod Told
+pub mod Passes
+pub mod Answers
+pub mod Examples
+pub mod Runs
+pub mod TextRead
+pub mod PackedRead
+pub mod Cases
+pub mod TextOnly
+pub mod PackedOnly
+pub mod Exact
+pub mod Verdicts
+pub mod TextBegun
+pub mod TextLarge

@@ -1,6 +1,6 @@
 /* pack pack|unpack [FILE]: writes the packed form of a listing's text, of a file or of standard input, to standard output, or the text of a
-   packed listing. The exit status is 0 if it was written, 1 if the input is no listing, 2 if the program was called wrongly, could not read,
-   could not print, or has too little room: the listing of any frame fits. */
+   packed listing. The exit status is 0 if it was written, 1 if the input is no listing, 2 if the program was called wrongly, could not
+   read, could not print, or has too little room: the listing of any frame fits. */
 #include "ferrysprig.h"
 #include <errno.h>
 #include <stdio.h>

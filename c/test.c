@@ -488,7 +488,8 @@ static bool unpackable(const char *packed, size_t length, size_t refusal) {
 
 static void try_listings(void) {
     static const char text[] = "-1 0 1 126 127 128 16383 2147483646 2147483647\nrefused 7 1 16 0 -1\n";
-    static const char packed[] = "\x02\x00\x01\x02\x7F\x80\x01\x81\x01\x80\x80\x01\xFF\xFF\xFF\xFF\x07\x80\x80\x80\x80\x08\x02\x08\x02\x11\x01\x00";
+    static const char packed[] = "\x02\x00\x01\x02\x7F\x80\x01\x81\x01\x80\x80\x01\xFF\xFF\xFF\xFF\x07\x80\x80\x80\x80\x08"
+                                 "\x02\x08\x02\x11\x01\x00";
     enum { TEXT = sizeof text - 1, PACKED = sizeof packed - 1 };
     size_t told[FERRYSPRIG_PACK_ANSWER_NUMBERS] = {UNTOUCHED, UNTOUCHED};
     ferrysprig_pack(NULL, 0, NULL, 0, told);
@@ -496,7 +497,8 @@ static void try_listings(void) {
     told[0] = told[1] = UNTOUCHED;
     ferrysprig_unpack(NULL, 0, NULL, 0, told);
     holds("a packed listing of nothing at all", told[0] == 43 && told[1] == 0);
-    holds("a listing is packed", listed(true, text, TEXT, sizeof out, 0, packed, PACKED) && listed(true, text, TEXT, PACKED, 0, packed, PACKED));
+    holds("a listing is packed", listed(true, text, TEXT, sizeof out, 0, packed, PACKED)
+              && listed(true, text, TEXT, PACKED, 0, packed, PACKED));
     holds("and unpacked", listed(false, packed, PACKED, sizeof out, 0, text, TEXT) && listed(false, packed, PACKED, TEXT, 0, text, TEXT));
     holds("a byte of output too few for a listing", listed(true, text, TEXT, PACKED - 1, 45, "", 0)
               && listed(false, packed, PACKED, TEXT - 1, 45, "", 0));
@@ -507,7 +509,8 @@ static void try_listings(void) {
         beginnings = beginnings && listed(false, packed, i, sizeof out, 43, "", 0);
     holds("every beginning of it", beginnings);
     holds("malformed lines", unlisted("audio 1 2 -0\n", 40) && unlisted("audio 1 2 03\n", 40) && unlisted("audio 1 2 +3\n", 40)
-              && unlisted("audio 1  2 3\n", 40) && unlisted("refused 1 2 3\n", 40) && unlisted("1 2 3 4 5 6 7 8\n", 40) && unlisted("\n", 40));
+              && unlisted("audio 1  2 3\n", 40) && unlisted("refused 1 2 3\n", 40) && unlisted("1 2 3 4 5 6 7 8\n", 40)
+              && unlisted("\n", 40));
     holds("numbers too large in a text", unlisted("audio 2147483648", 42) && unlisted("audio 99999999999999999999 x", 42));
     holds("text left over", unlisted("audio 1 2 3\n\n", 44));
     holds("needless groups", unpackable("\x80\x00", 2, 41) && unpackable("\x01\x01\xFF\x00", 4, 41)

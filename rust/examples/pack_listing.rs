@@ -1,5 +1,6 @@
-//! pack_listing pack FILE: the packed form of a listing's text, on standard output. pack_listing unpack FILE: the text of a packed listing. The
-//! exit status is 0 if it was written, 1 if the file is no listing, 2 if the program was called wrongly, could not read or could not print.
+//! pack_listing pack FILE: the packed form of a listing's text, on standard output. pack_listing unpack FILE: the text of a packed listing.
+//! The exit status is 0 if it was written, 1 if the file is no listing, 2 if the program was called wrongly, could not read or could not
+//! print.
 
 use ferrysprig::listing::{pack, unpack, Refusal};
 use std::io::{self, Write};

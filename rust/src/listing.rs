@@ -1,7 +1,7 @@
 //! Listings, as text and packed: the text that the listing program prints, and the binary form that a log collector takes.
 //!
-//! A listing is any number of rows of nine numbers and a last line, `audio` with three numbers or `refused` with five; docs/FORMAT.md has both
-//! forms byte by byte. Going back returns the exact start, both ways, and every listing has one packed form: that is proved
+//! A listing is any number of rows of nine numbers and a last line, `audio` with three numbers or `refused` with five; docs/FORMAT.md has
+//! both forms byte by byte. Going back returns the exact start, both ways, and every listing has one packed form: that is proved
 //! (docs/PROMISES.md).
 //!
 //! ```
@@ -123,7 +123,8 @@ pub fn pack_into<'a>(text: &[u8], out: &'a mut [u8]) -> Result<&'a [u8], Refusal
     done(raw::pack(text, out))
 }
 
-/// Unpacks as [`unpack`] does, to the front of `out`, which the caller lends. The rest of `out`, and on a refusal all of it, is not touched.
+/// Unpacks as [`unpack`] does, to the front of `out`, which the caller lends. The rest of `out`, and on a refusal all of it, is not
+/// touched.
 pub fn unpack_into<'a>(packed: &[u8], out: &'a mut [u8]) -> Result<&'a [u8], Refusal> {
     done(raw::unpack(packed, out))
 }

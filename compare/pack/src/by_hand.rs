@@ -1,5 +1,5 @@
-//! What one would write by hand to be fast, with the same answers: two passes, since a refusal writes nothing. The first reads and measures,
-//! the second writes, and need not look for faults again.
+//! What one would write by hand to be fast, with the same answers: two passes, since a refusal writes nothing. The first reads and
+//! measures, the second writes, and need not look for faults again.
 
 use crate::layout::PackAnswer;
 

@@ -1,7 +1,7 @@
 //! The generator of calls about packed listings, the same for the same seed and size: listings of an encoder's frames and of refusals, and
-//! listings of any numbers; each packed and unpacked, cut, lengthened and changed at every byte, in both forms; every number at every place,
-//! right and wrong in each way; each two faults together; all short inputs. Each is tried in rooms around the exact one. What a planted
-//! fault must give is known beforehand, and what `again` derives must be what the judge answers: a disagreement stops the program.
+//! listings of any numbers; each packed and unpacked, cut, lengthened and changed at every byte, in both forms; every number at every
+//! place, right and wrong in each way; each two faults together; all short inputs. Each is tried in rooms around the exact one. What a
+//! planted fault must give is known beforehand, and what `again` derives must be what the judge answers: a disagreement stops the program.
 
 use super::{again, pack, unpack, Listing, Word, AUDIO, GREATEST, REFUSED};
 use super::{ENDS, LEFT_OVER, MALFORMED, NEEDLESS, NO_ROOM, TOO_LARGE, WRONG};

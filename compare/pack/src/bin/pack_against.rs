@@ -1,6 +1,6 @@
-//! pack_against SEED SIZE: runs the generator of calls about packed listings and holds the port's answer and every byte of its output against
-//! the judge's; those of the Rust by hand, too, so that what is measured does the same. Prints what was compared; status 1 on a difference,
-//! or where something that is to be compared was not met.
+//! pack_against SEED SIZE: runs the generator of calls about packed listings and holds the port's answer and every byte of its output
+//! against the judge's; those of the Rust by hand, too, so that what is measured does the same. Prints what was compared; status 1 on a
+//! difference, or where something that is to be compared was not met.
 
 use compare_pack::layout::PackAnswer;
 use compare_pack::{by_hand, raw};

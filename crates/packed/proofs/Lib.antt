@@ -13,3 +13,7 @@ pub mod Exact
 pub mod Verdicts
 pub mod TextBegun
 pub mod TextLarge
+pub mod Rooms
+pub mod TextRefusals
+pub mod PackedBegun
+pub mod PackedRefusals

@@ -48,7 +48,7 @@ power zero = lit≤ tt
 power (suc k) = rw (pow-suc 128 k) (omega (arith, power k))
 
 -- a group that fits weighs what its place says
-same-weight : (g k count : ℕ) → k ≡ min count 5 → g * weight k ≤ 2147483648 → g * weight k ≡ g * 128 ^ count
+pub same-weight : (g k count : ℕ) → k ≡ min count 5 → g * weight k ≤ 2147483648 → g * weight k ≡ g * 128 ^ count
 same-weight g k count e h = go (leb count 5) refl
   where
     go : (t : Bool) → leb count 5 ≡ t → g * weight k ≡ g * 128 ^ count
@@ -67,7 +67,7 @@ same-weight g k count e h = go (leb count 5) refl
 groups-front : (g u : ℕ) → g < 128 → 1 ≤ u → u * 128 + g < 2 ^ 64 → (128 + g) ∷ groups u ≡ groups (u * 128 + g)
 groups-front g u h l b = sym (groups-large {v = u * 128 + g} (omega arith) b ∙ rw (digits-div u h, digits-mod u h))
 
-abbrev Good : List ℕ → ℕ → Group → Type 0
+abbrev pub Good : List ℕ → ℕ → Group → Type 0
 Good gs b (Going m j) = Part m j (gs ++ (b ∷ []))
 Good gs b (Whole v) = (v ≤ 2147483648) × (gs ++ (b ∷ []) ≡ groups v)
 Good gs b (Bad e) = Refused e
@@ -119,7 +119,7 @@ module _ (n k b : ℕ) (gs : List ℕ) (byte : b < 256) (p : Part n k gs) (fits 
             ∙ ap groups (sym q);
       }
 
-group-good : (n k b : ℕ) (gs : List ℕ) → b < 256 → Part n k gs → Good gs b (group n k b)
+pub group-good : (n k b : ℕ) (gs : List ℕ) → b < 256 → Part n k gs → Good gs b (group n k b)
 group-good n k b gs byte p =
     by-test (Good gs b) (leb (n + b % 128 * weight k) 2147483648)
     (λ f.
@@ -176,13 +176,13 @@ module _ {before : List ℕ} {total left : ℕ} {bytes : List ℕ} (v : ℕ) (sm
   numbers-all z = (omega (arith, i .sum, z, length-append (i .vs) (v ∷ [])), each-snoc Small (i .vs) (i .small) small)
 
 -- what stands before the number at a place
-abbrev Before : Place → List ℕ → Type 0
+abbrev pub Before : Place → List ℕ → Type 0
 Before Count bytes = bytes ≡ []
 Before (Cell rows left) bytes = (done : List ℕ) × Rows (rows + 1) done × Numbers done 9 left bytes
 Before Kind bytes = Rows 0 bytes
 Before (Tail left) bytes = (done : List ℕ) × (k : Bool) × Rows 0 done × Numbers (done ++ groups (kind k)) (lastCount k) left bytes
 
-abbrev Seen : Packed → List ℕ → Type 0
+abbrev pub Seen : Packed → List ℕ → Type 0
 Seen (At p n k) bytes = (done gs : List ℕ) × Before p done × Part n k gs × (bytes ≡ done ++ gs)
 Seen Done bytes = (l : Listing) × Valid l × (packed l ≡ bytes)
 Seen (Halt n) bytes = Refused n
@@ -260,7 +260,7 @@ step-seen (At p n k) bytes b h w =
 step-seen Done bytes b h w = refuses tt
 step-seen (Halt n) bytes b h w = w
 
-all-seen : (s : Packed) (before bytes : List ℕ) → Each (λ b. b < 256) bytes → Seen s before → Seen (after step s bytes) (before ++ bytes)
+pub all-seen : (s : Packed) (before bytes : List ℕ) → Each (λ b. b < 256) bytes → Seen s before → Seen (after step s bytes) (before ++ bytes)
 all-seen s before [] h w = rw append-nil w
 all-seen s before (b ∷ bytes) h w =
     rw (append-assoc before (b ∷ []) bytes) at (all-seen (step s b) (before ++ (b ∷ [])) bytes (h .1) (step-seen s before b (h .0) w))
@@ -270,6 +270,8 @@ read-whole (At p n k) bytes w e = absurd (omega (arith, e))
 read-whole Done bytes w e = w
 read-whole (Halt n) bytes w e = absurd (w .refused e)
 
+pub seen : (bytes : List ℕ) → Each (λ b. b < 256) bytes → Seen (after step (At Count 0 0) bytes) bytes
+seen bytes h = all-seen (At Count 0 0) [] bytes h (at-place Count [] refl)
+
 pub packed-only : PackedOnly
-packed-only bytes h e =
-    read-whole (after step (At Count 0 0) bytes) bytes (all-seen (At Count 0 0) [] bytes h (at-place Count [] refl)) e
+packed-only bytes h e = read-whole (after step (At Count 0 0) bytes) bytes (seen bytes h) e

@@ -88,7 +88,7 @@ module _ (p : Place) where
           (rw q at (ih (λ y. absurd (omega arith)) (rw q b))))
 
   -- a whole number from its first group on
-  whole : (v : ℕ) → v ≤ 2147483648 → Goes step tell (At p 0 0) (groups v) (reached p v) (say p v)
+  pub whole : (v : ℕ) → v ≤ 2147483648 → Goes step tell (At p 0 0) (groups v) (reached p v) (say p v)
   whole v h =
       let e : 0 + v * 128 ^ 0 ≡ v = omega arith in
       rw e at (number 5 0 0 v refl (omega (arith, h)) (omega (arith, h)) (λ y. refl) (omega (arith, h)))
@@ -112,22 +112,22 @@ module _ (place : ℕ → Place) (end : Packed)
       rw (append-assoc (signed v) (32 ∷ []) (line (w ∷ ws))) at
       (_then_ step tell (rw (goes, s) at (whole (place (suc left)) v (h .0))) (a-line left (w ∷ ws) (omega (arith, e)) (h .1)))
 
-cell-goes : (rows left v : ℕ) → reached (Cell rows (suc left)) v ≡ At (Cell rows left) 0 0
+pub cell-goes : (rows left v : ℕ) → reached (Cell rows (suc left)) v ≡ At (Cell rows left) 0 0
 cell-goes rows left v =
     let e : suc left - 1 ≡ left = omega arith in
     simp (ne-eqb (suc left) 0 (omega arith), e)
 
-tail-goes : (left v : ℕ) → reached (Tail (suc left)) v ≡ At (Tail left) 0 0
+pub tail-goes : (left v : ℕ) → reached (Tail (suc left)) v ≡ At (Tail left) 0 0
 tail-goes left v =
     let e : suc left - 1 ≡ left = omega arith in
     simp (ne-eqb (suc left) 0 (omega arith), e)
 
-rows-more : (n : ℕ) → rowsOn (suc n) ≡ At (Cell n 8) 0 0
+pub rows-more : (n : ℕ) → rowsOn (suc n) ≡ At (Cell n 8) 0 0
 rows-more n =
     let e : suc n - 1 ≡ n = omega arith in
     simp (ne-eqb (suc n) 0 (omega arith), e)
 
-all-rows : (rows : List (List ℕ)) → Each (Line 9) rows → Goes step tell (rowsOn (length rows)) (joined grouped rows) (At Kind 0 0) (joined line rows)
+pub all-rows : (rows : List (List ℕ)) → Each (Line 9) rows → Goes step tell (rowsOn (length rows)) (joined grouped rows) (At Kind 0 0) (joined line rows)
 all-rows [] v = stay step tell (At Kind 0 0)
 all-rows (r ∷ rows) v =
     rw (rows-more (length rows))
@@ -135,7 +135,7 @@ all-rows (r ∷ rows) v =
     (a-line (Cell (length rows)) (rowsOn (length rows)) (λ left x. refl) (λ x. refl) (cell-goes (length rows)) 8 r (v .0 .0) (v .0 .1))
     (all-rows rows (v .1)))
 
-a-count : (n : ℕ) → n < 2147483648 → Goes step tell (At Count 0 0) (groups (n + 1)) (rowsOn n) []
+pub a-count : (n : ℕ) → n < 2147483648 → Goes step tell (At Count 0 0) (groups (n + 1)) (rowsOn n) []
 a-count n h =
     let e : n + 1 - 1 ≡ n = omega arith in
     let r : reached Count (n + 1) ≡ rowsOn n = simp (ne-eqb (n + 1) 0 (omega arith), e) in

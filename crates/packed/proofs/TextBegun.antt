@@ -1,15 +1,14 @@
 -- From each state that is no refusal's the reading of a text can be brought to an end, by a 0 for each number that is missing and an
 -- `audio` line. Assumes nothing.
-use mathlib.Core.Path.{_≡_, refl, ap, sym, _∙_}
+use mathlib.Core.Path.{_≡_, refl, ap, _∙_}
 use mathlib.Core.Bool.{Bool, true, false}
-use mathlib.Core.List.{List, [], _∷_, _++_, append-assoc, append-nil}
+use mathlib.Core.List.{List, [], _∷_, _++_}
 use mathlib.Core.Logic.{_⊎_, inl, inr}
 use Prim.Native.Nat.{ℕ, zero, suc, _+_, _-_, _≤_, _<_}
-use native.Mathlib.Nat.{add-zero}
 use native.Mathlib.Omega.{arith}
-use borrow.Author.Tests.{eq-eqb, ltb-true, ltb-false, le-ltb}
-use lib.Dec.{lit<, lit≤, ltb, eqb}
-use lib.ListN.{length, getD}
+use borrow.Author.Tests.{eq-eqb, ltb-true, ltb-false}
+use lib.Dec.{ltb, eqb}
+use lib.ListN.{getD}
 use Rattle.packed.specs.declared.Part.{Part}
 use Rattle.packed.specs.declared.Part.the-variants.{Fresh, Minus, Closed, Open}
 use Rattle.packed.specs.declared.Next.{Next}
@@ -17,15 +16,12 @@ use Rattle.packed.specs.declared.Next.the-variants.{More, Ended}
 use Rattle.packed.specs.declared.Text.{Text}
 use Rattle.packed.specs.declared.Text.the-variants.{Line, Row, Word, Last, End, Stop}
 use Rattle.packed.specs.Machine.{after}
-use Rattle.listing.specs.Number.{separator, letters}
-use Rattle.listing.specs.Listing.{Each, line, joined}
-use Rattle.listing.specs.Listing as listing
-use Rattle.packed.specs.Text.{next, rowEnd, rowOn, lastOn, step, verdict, textVerdict}
-use Rattle.packed.specs.Refusals.{Begins, IsText, RowsTooMany, Unfinished}
+use Rattle.listing.specs.Number.{letters}
+use Rattle.packed.specs.Text.{next, rowOn, lastOn, step, verdict}
 use Rattle.packed.proofs.Cases.{by-test}
-use Rattle.packed.proofs.TextRead.{a-row, but-end, closed-ends, last-goes, line-begins, one-more, open-ends, row-first, row-goes, separator-more, text-read}
-use Rattle.packed.proofs.TextOnly.{Seen, all-seen, next-good, past, row-ended, seen, text-only}
-use Rattle.packed.proofs.Verdicts.{runs-on}
+use Rattle.packed.proofs.Runs.{after-append}
+use Rattle.packed.proofs.TextRead.{closed-ends, last-goes, one-more, open-ends, row-goes, separator-more}
+use Rattle.packed.proofs.TextOnly.{Seen, past}
 
 -- ---- an end for each state
 
@@ -37,8 +33,8 @@ Fin s =
 
 later : (s : Text) (m : List ℕ) → Fin (after step s m) → Fin s
 later s m f = elim f [
-  | inl x ↦ inl (m ++ x .0, ap verdict (runs-on step s m (x .0)) ∙ x .1)
-  | inr x ↦ inr (m ++ x .0, x .1, x .2, x .3, runs-on step s m (x .0) ∙ x .4, x .5, x .6)
+  | inl x ↦ inl (m ++ x .0, ap verdict (after-append step s m (x .0)) ∙ x .1)
+  | inr x ↦ inr (m ++ x .0, x .1, x .2, x .3, after-append step s m (x .0) ∙ x .4, x .5, x .6)
 ]
 
 -- what is missing of a number

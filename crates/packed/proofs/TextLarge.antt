@@ -4,11 +4,11 @@ use mathlib.Core.Path.{_≡_, refl, ap, sym, _∙_}
 use mathlib.Core.Bool.{Bool, true, false, _||_, false≢true}
 use mathlib.Core.List.{List, [], _∷_, _++_, append-assoc, append-nil}
 use mathlib.Core.Logic.{_⊎_, inl, inr}
-use Prim.Native.Nat.{ℕ, zero, suc, _+_, _-_, _*_, _^_, _≤_, _<_}
+use Prim.Native.Nat.{ℕ, zero, suc, _+_, _-_, _*_, _≤_, _<_}
 use native.Mathlib.Omega.{arith}
-use borrow.Author.Tests.{eqb-true, eqb-false, ltb-true, ltb-false, ne-eqb, lt-ltb, le-ltb}
+use borrow.Author.Tests.{eqb-true, ltb-false, ne-eqb, lt-ltb, le-ltb}
 use lib.Dec.{lit<, ltb, eqb}
-use lib.ListN.{length, getD, take, drop}
+use lib.ListN.{getD, take, drop}
 use Rattle.packed.specs.declared.Part.{Part}
 use Rattle.packed.specs.declared.Part.the-variants.{Fresh, Minus, Closed, Open}
 use Rattle.packed.specs.declared.Next.{Next}
@@ -18,11 +18,10 @@ use Rattle.packed.specs.declared.Text.the-variants.{Line, Row, Word, Las
 use Rattle.packed.specs.Machine.{after}
 use Rattle.listing.specs.Number.{decimal, signed, separator, letters}
 use Rattle.listing.specs.Listing.{Each, line, joined, word, lastCount}
-use Rattle.packed.specs.Text.{next, digit, grown, rowEnd, rowOn, lastOn, lettered, step, tell, verdict}
+use Rattle.packed.specs.Text.{next, digit, grown, rowOn, lastOn, step, verdict}
 use Rattle.packed.specs.Refusals.{NumberBegins, DigitTooMany, TooLarge}
 use Rattle.packed.proofs.Cases.{by-test, spaced}
-use Rattle.packed.proofs.Exact.{text-stopped}
-use Rattle.packed.proofs.Runs.{after-append}
+use Rattle.packed.proofs.Runs.{after-append, text-stopped}
 use Rattle.packed.proofs.TextRead.{decimal-begins, digits, row-first}
 use Rattle.packed.proofs.TextOnly.{Begun, Good, Ok, Rows, Seen, begun-none, next-good, row-ended}
 
@@ -60,14 +59,17 @@ next-judged (Open n) s b =
     (λ l h.
     by-test (Judged (Open n) b) (ltb (n * 10 + (b - 48)) 2147483648) (λ _. tt)
     (λ e.
-    inr (refl, record {
-      n = n;
-      d = b - 48;
-      p-is = refl;
-      b-is = omega arith;
-      one = omega arith;
-      large = omega (arith, ltb-false (n * 10 + (b - 48)) 2147483648 e);
-    }))))
+    inr (
+      refl,
+      record {
+        n = n;
+        d = b - 48;
+        p-is = refl;
+        b-is = omega arith;
+        one = omega arith;
+        large = omega (arith, ltb-false (n * 10 + (b - 48)) 2147483648 e);
+      },
+    ))))
 
 -- ---- where a number begins
 
@@ -225,7 +227,7 @@ pub fresh-after : (bytes : List ℕ) → NumberBegins bytes → Freshly (after s
 fresh-after bytes h = elim h [
   | inl e ↦ rw e tt
   | inr x ↦
-      rw (x .3, after-append step tell (Line 1) (x .0) (x .1 ∷ []))
+      rw (x .3, after-append step (Line 1) (x .0) (x .1 ∷ []))
       (step-fresh (after step (Line 1) (x .0)) (x .1) (elim (x .2) [ inl e ↦ omega (arith, e) | inr e ↦ omega (arith, e) ]))
 ]
 

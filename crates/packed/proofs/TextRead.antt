@@ -163,7 +163,7 @@ module _ (at : ℕ → Part → Text) (on : ℕ → Next → Text) (end : Text)
         (signed v ++ (32 ∷ [])) ++ r .0,
         r .1,
         rw (append-assoc (signed v) (32 ∷ []) (r .0)) (ap (λ (l : List ℕ). signed v ++ (32 ∷ l)) (r .2) ∙ sym (append-assoc (signed v) (32 ∷ r .0) (10 ∷ []))),
-        after-append step yields (at (suc left) Fresh) (signed v ++ (32 ∷ [])) (r .0) ∙ rw (n .ends) (r .3),
+        after-append step (at (suc left) Fresh) (signed v ++ (32 ∷ [])) (r .0) ∙ rw (n .ends) (r .3),
       )
 
 -- ---- rows

@@ -10,6 +10,7 @@ use borrow.Author.Tests.{eqb-true, eqb-false}
 use lib.Dec.{eqb}
 use Rattle.packed.specs.Machine.{after}
 use Rattle.packed.specs.Refusals.{First}
+use Rattle.packed.proofs.Runs.{after-append}
 
 pub record Judge {S : Type 0} (step : S → ℕ → S) (verdict : S → ℕ) (start : S) : Type 0 where
   pub begun : verdict start ≡ 43
@@ -17,9 +18,9 @@ pub record Judge {S : Type 0} (step : S → ℕ → S) (verdict : S → ℕ) (st
   pub over : (bytes : List ℕ) (b : ℕ) → verdict (after step start bytes) ≡ 0 → verdict (step (after step start bytes) b) ≡ 44
   pub under : (bytes : List ℕ) (b : ℕ) → verdict (after step start bytes) ≡ 43 → ¬ (verdict (step (after step start bytes) b) ≡ 44)
 
-pub runs-on : {S : Type 0} (step : S → ℕ → S) (s : S) (a b : List ℕ) → after step s (a ++ b) ≡ after step (after step s a) b
-runs-on step s [] b = refl
-runs-on step s (x ∷ a) b = runs-on step (step s x) a b
+pub first-map :
+    {P Q : List ℕ → ℕ → Type 0} {bytes : List ℕ} → ((good : List ℕ) (b : ℕ) → P good b → Q good b) → First P bytes → First Q bytes
+first-map f x = record { good = x .good; next = x .next; rest = x .rest; whole = x .whole; holds = f (x .good) (x .next) (x .holds) }
 
 -- not yet refused
 abbrev Alive : ℕ → Type 0
@@ -61,19 +62,19 @@ module _ {S : Type 0} (step : S → ℕ → S) (verdict : S → ℕ) (start : S)
   abbrev v : List ℕ → ℕ
   v bytes = verdict (after step start bytes)
 
-  snoc : (good : List ℕ) (b : ℕ) → v (good ++ (b ∷ [])) ≡ verdict (step (after step start good) b)
-  snoc good b = ap verdict (runs-on step start good (b ∷ []))
+  pub snoc : (good : List ℕ) (b : ℕ) → v (good ++ (b ∷ [])) ≡ verdict (step (after step start good) b)
+  snoc good b = ap verdict (after-append step start good (b ∷ []))
 
   -- what is refused stays so
   pub refused-on : (bytes rest : List ℕ) → ¬ (v bytes ≡ 0) → ¬ (v bytes ≡ 43) → v (bytes ++ rest) ≡ v bytes
-  refused-on bytes rest p q = ap verdict (runs-on step start bytes rest) ∙ stopped (after step start bytes) rest p q
+  refused-on bytes rest p q = ap verdict (after-append step start bytes rest) ∙ stopped (after step start bytes) rest p q
 
   -- after a whole one, one more
   pub one-more : (bytes : List ℕ) (b : ℕ) (rest : List ℕ) → v bytes ≡ 0 → v (bytes ++ (b ∷ rest)) ≡ 44
   one-more bytes b rest e =
       let s = after step start bytes in
       let k = judge .over bytes b e in
-      ap verdict (runs-on step start bytes (b ∷ rest)) ∙ stopped (step s b) rest (λ z. omega (arith, k, z)) (λ z. omega (arith, k, z)) ∙ k
+      ap verdict (after-append step start bytes (b ∷ rest)) ∙ stopped (step s b) rest (λ z. omega (arith, k, z)) (λ z. omega (arith, k, z)) ∙ k
 
   pub refused-first :
       (bytes : List ℕ) (n : ℕ)

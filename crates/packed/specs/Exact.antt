@@ -1,17 +1,11 @@
 -- What holds of both forms. Every listing's text is read, and packs to its packed form; every packed form is read, and unpacks to the
 -- text; nothing else is read. So each way back returns the exact start, and every listing has one packed form.
 use mathlib.Core.Path.{_≡_}
-use mathlib.Core.List.{List, _++_}
+use mathlib.Core.List.{List}
 use Prim.Native.Nat.{ℕ, _<_}
-use Rattle.packed.specs.declared.Place.the-variants.{Count}
-use Rattle.packed.specs.declared.Packed.the-variants.{At, Halt}
-use Rattle.packed.specs.declared.Text.the-variants.{Line, Stop}
-use Rattle.packed.specs.Machine.{after}
 use Rattle.listing.specs.Listing.{Listing, Valid, Each, text, packed}
 use Rattle.packed.specs.Text.{textVerdict, textPacked}
 use Rattle.packed.specs.Packed.{packedVerdict, packedText}
-use Rattle.packed.specs.Text as Text
-use Rattle.packed.specs.Packed as Packed
 
 -- ---- reading what was printed gives the listing
 
@@ -45,11 +39,3 @@ PackedBack =
 
 abbrev pub OnePacked : Type 0
 OnePacked = (l m : Listing) → Valid l → Valid m → (text l ≡ text m → packed l ≡ packed m) × (packed l ≡ packed m → text l ≡ text m)
-
--- ---- a byte that is refused decides: whatever follows, the answer stays, so no listing's text and no packed form begins so
-
-abbrev pub TextStays : Type 0
-TextStays = (bytes rest : List ℕ) (n : ℕ) → after Text.step (Line 1) bytes ≡ Stop n → textVerdict (bytes ++ rest) ≡ n
-
-abbrev pub PackedStays : Type 0
-PackedStays = (bytes rest : List ℕ) (n : ℕ) → after Packed.step (At Count 0 0) bytes ≡ Halt n → packedVerdict (bytes ++ rest) ≡ n

@@ -102,20 +102,24 @@ pub record Reached (done gs bytes : List ℕ) : Type 0 where
 abbrev pub Within : (List ℕ → ℕ → Type 0) → List ℕ → Type 0
 Within P bytes = First (λ good b. (done gs : List ℕ) × Reached done gs good × P gs b) bytes
 
+-- where the kind of the last line stands
+abbrev pub AtKind : List ℕ → Type 0
+AtKind done =
+    (rows : List (List ℕ)) × Each (Line 9) rows × (length rows < 2147483648) × (done ≡ groups (length rows + 1) ++ joined grouped rows)
+
 -- the row count -1, or a kind that is neither `audio` nor `refused`
 abbrev pub CountWrong : List ℕ → Type 0
 CountWrong bytes = (rest : List ℕ) × (bytes ≡ 0 ∷ rest)
 
 pub record KindWrong (bytes : List ℕ) : Type 0 where
-  pub rows : List (List ℕ)
-  pub valid : Each (Line 9) rows
-  pub count : length rows < 2147483648
+  pub done : List ℕ
+  pub at : AtKind done
   pub kind : ℕ
   pub fits : kind ≤ 2147483648
   pub not-audio : ¬ (kind ≡ 1)
   pub not-refused : ¬ (kind ≡ 2)
   pub rest : List ℕ
-  pub bytes-are : bytes ≡ groups (length rows + 1) ++ (joined grouped rows ++ (groups kind ++ rest))
+  pub bytes-are : bytes ≡ done ++ (groups kind ++ rest)
 
 pub record UnpackRefusals (bytes out : List ℕ) : Type 0 where
   pub none : (unpackingRefusal bytes out ≡ 0) ↔ ((l : Listing) × Valid l × (packed l ≡ bytes) × (length (text l) ≤ length out))
@@ -125,6 +129,10 @@ pub record UnpackRefusals (bytes out : List ℕ) : Type 0 where
   pub more : (unpackingRefusal bytes out ≡ 44) ↔ First (λ good _. IsPacked good) bytes
   pub room : (unpackingRefusal bytes out ≡ 45) ↔ ((l : Listing) × Valid l × (packed l ≡ bytes) × (length out < length (text l)))
   pub wrong : (unpackingRefusal bytes out ≡ 46) ↔ (CountWrong bytes ⊎ KindWrong bytes)
+  -- so the beginning of a packed listing is refused with 43; and what is refused with 43 begins one, unless it ends within a number that
+  -- none has, of five groups and more to come or for the kind of two (what such a number is, is told at its end: 41, 42 or 46)
+  pub begun : Begins IsPacked bytes → unpackingRefusal bytes out ≡ 43
+  pub begins : (done gs : List ℕ) → Reached done gs bytes → length gs < 5 → (AtKind done → gs ≡ []) → Begins IsPacked bytes
 
 -- ---- for every input (a list of numbers is one of bytes if each is below 256) and every output
 

@@ -8,10 +8,9 @@ use super::numbers;
 ghost use mathlib.Core.Path.{_≡_};
 ghost use Prim.Native.Nat.{_+_, _-_, _^_, _≤_, _<_, min};
 ghost use lib.ListN.{length};
-ghost use lib.Seq.{sets, slice};
+ghost use lib.Seq.{sets};
 ghost use Rattle.packed.specs.Machine.{after, told};
 ghost use Rattle.packed.specs.Packed.{weight, group, rowsOn, reached, grouping, step, say, spoken, tell, verdict, heard};
-ghost use Rattle.listing.specs.Number.{letters};
 
 // What a group counts for: 128 to the number of groups before it, which is 5 from the sixth on.
 fn weight_of(k: u8) -> usize

@@ -12,6 +12,9 @@ ghost use lib.Seq.{sets};
 ghost use Rattle.packed.specs.Machine.{after, told};
 ghost use Rattle.packed.specs.Text.{next, rowEnd, lettered, rowOn, lastOn, step, yields, tell, verdict, count, listed, ended};
 
+// The count of no rows, stored plus one.
+const NO_ROWS: usize = 1;
+
 fn fresh_next(sep: u8, b: u8) -> Next
     ensures { λ r. ⌜ r ≡ next Part.Fresh sep b ⌝ }
 {
@@ -241,7 +244,7 @@ pub fn measure(listing: &[u8], room: usize) -> TextSeen
     requires { ⌜ room < 2 ^ 63 ⌝ }
     ensures { λ r. ⌜ (r .end ≡ after step (Text.Line 1) (now (listing .entry))) × (r .size ≡ min (length (told step tell (Text.Line 1) (now (listing .entry)))) (room + 1)) ⌝ }
 {
-    let mut s = Text::Line(1);
+    let mut s = Text::Line(NO_ROWS);
     let mut size = 0;
     let mut i = 0;
     while i < listing.len() {
@@ -258,7 +261,7 @@ pub fn write(listing: &[u8], out: &mut [u8], at: usize)
     requires { ⌜ at + length (told step tell (Text.Line 1) (now listing)) ≤ length (now out) ⌝ }
     ensures { λ _. ⌜ now (out .exit) ≡ sets (now (out .entry)) at (told step tell (Text.Line 1) (now (listing .entry))) ⌝ }
 {
-    let mut s = Text::Line(1);
+    let mut s = Text::Line(NO_ROWS);
     let mut to = at;
     let mut i = 0;
     while i < listing.len() {

@@ -122,8 +122,8 @@ enum {
 }
 
 /* What each refusal means: 1 to 23 of a frame, 24 of a header answer, 25 to 27 of an AHT section, 28 and 30 to 34 of a burst, 35 to 37 of a
-   salvage, 57 to 59 of a value to be set. (No others are given. The text of 6 is a frame's; ferrysprig_aht says what it means of a
-   section.) */
+   salvage, 40 to 46 of a listing, 57 to 59 of a value to be set. (No others are given. The text of 6 is a frame's; ferrysprig_aht says what
+   it means of a section.) */
 #define FERRYSPRIG_MEANINGS { \
     /*  0 */ "accepted", \
     /*  1 */ "the input has fewer than 6 bytes", \
@@ -163,7 +163,15 @@ enum {
     /* 35 */ "the output has too little left for a frame", \
     /* 36 */ "no entry of the list is left", \
     /* 37 */ "the rows do not suffice for a place of the capture", \
-    /* 38 */ "", "", "", "", "", "", "", "", "", "", "", "", "", "", "", "", "", "", "", \
+    /* 38 */ "", "", \
+    /* 40 */ "a line is malformed", \
+    /* 41 */ "a packed number has a needless group", \
+    /* 42 */ "a number does not fit 32 signed bits", \
+    /* 43 */ "the input is only the beginning of a listing", \
+    /* 44 */ "bytes are left over after the listing", \
+    /* 45 */ "the output is too short for the listing", \
+    /* 46 */ "the row count is -1, or neither 0 nor 1 stands for audio or refused", \
+    /* 47 */ "", "", "", "", "", "", "", "", "", "", \
     /* 57 */ "the width is not 1 to 16", \
     /* 58 */ "the field does not lie within the capture", \
     /* 59 */ "the value does not fit the width" \
@@ -363,6 +371,33 @@ enum {
    what parsing does not look at (mantissas, checksums, the frame's tail) may be damaged. */
 void ferrysprig_salvage(const uint8_t *capture, size_t capture_len, int32_t *rows, size_t rows_len, size_t *list, size_t list_len,
                         uint8_t *out, size_t out_len, size_t answer[FERRYSPRIG_SALVAGE_ANSWER_NUMBERS]);
+
+/* Packed listings: the text that the listing program prints, in the binary form that a log collector takes, and back. A listing is any
+   number of rows of nine numbers and a last line, `audio` with three numbers or `refused` with five; docs/FORMAT.md has both forms byte by
+   byte. Going back returns the exact start, both ways, and every listing has one packed form, which is proved. */
+
+/* The numbers of an answer about a packed listing. */
+enum {
+    FERRYSPRIG_PACK_ANSWER_REFUSAL = 0, /* 0: done; else 40 to 46, see FERRYSPRIG_MEANINGS */
+    FERRYSPRIG_PACK_ANSWER_WRITTEN = 1  /* how many bytes were written to the front of `out`; 0 on a refusal */
+};
+#define FERRYSPRIG_PACK_ANSWER_NUMBERS 2
+
+/* Writes the packed form of a listing to the front of `out`; as many bytes as the text has are always enough. All of `listing` is the text.
+   The first refusal that is met in reading is given: 40 at a byte with which no listing goes on, 42 at the digit that makes a number greater
+   than 2,147,483,647, 43 where the input ends too early, 44 at a byte after the last line; and 45, `out` is too short, only where there is no
+   other. Any input is answered; `out` and `answer` overlap nothing. Bytes of `out` past those written are not touched, and none is on a
+   refusal. */
+void ferrysprig_pack(const uint8_t *listing, size_t listing_len, uint8_t *out, size_t out_len,
+                     size_t answer[FERRYSPRIG_PACK_ANSWER_NUMBERS]);
+
+/* Writes the text of a packed listing to the front of `out`; four times the bytes of `packed` are always enough. All of `packed` is the
+   listing. The first refusal that is met in reading is given: 41 at a last group of 0 that is not a number's only one, 42 at the group that
+   makes a number greater than 2,147,483,647, 43 where the input ends too early, 44 at a byte after the listing, 46 at the end of a row count
+   of -1 or of a number for `audio` or `refused` that is neither 0 nor 1; and 45, `out` is too short, only where there is no other. Any input
+   is answered; `out` and `answer` overlap nothing. Bytes of `out` past those written are not touched, and none is on a refusal. */
+void ferrysprig_unpack(const uint8_t *packed, size_t packed_len, uint8_t *out, size_t out_len,
+                       size_t answer[FERRYSPRIG_PACK_ANSWER_NUMBERS]);
 
 #ifdef __cplusplus
 }

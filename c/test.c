@@ -462,6 +462,64 @@ static void try_profile(void) {
     holds("the profile of nothing at all", profile_answer[0] == 1 && profile_answer[1] == 0 && profile_answer[2] == 0 && profile_answer[3] == 0);
 }
 
+/* Whether a listing, packed or unpacked, is answered so in so many bytes of room, with nothing else touched. */
+static bool listed(bool packs, const char *from, size_t length, size_t bytes, size_t refusal, const char *made, size_t written) {
+    size_t told[FERRYSPRIG_PACK_ANSWER_NUMBERS + 1] = {UNTOUCHED, UNTOUCHED, UNTOUCHED};
+    memset(out, 0xA5, sizeof out);
+    if (packs)
+        ferrysprig_pack((const uint8_t *)from, length, out, bytes, told);
+    else
+        ferrysprig_unpack((const uint8_t *)from, length, out, bytes, told);
+    bool same = written == 0 || memcmp(out, made, written) == 0;
+    for (size_t i = written; i < sizeof out; i++)
+        same = same && out[i] == 0xA5;
+    return same && told[FERRYSPRIG_PACK_ANSWER_REFUSAL] == refusal && told[FERRYSPRIG_PACK_ANSWER_WRITTEN] == written
+        && told[FERRYSPRIG_PACK_ANSWER_NUMBERS] == UNTOUCHED;
+}
+
+/* Whether a text, and a packed form of so many bytes, are refused so, however much room there is. */
+static bool unlisted(const char *text, size_t refusal) {
+    return listed(true, text, strlen(text), sizeof out, refusal, "", 0) && listed(true, text, strlen(text), 0, refusal, "", 0);
+}
+
+static bool unpackable(const char *packed, size_t length, size_t refusal) {
+    return listed(false, packed, length, sizeof out, refusal, "", 0) && listed(false, packed, length, 0, refusal, "", 0);
+}
+
+static void try_listings(void) {
+    static const char text[] = "-1 0 1 126 127 128 16383 2147483646 2147483647\nrefused 7 1 16 0 -1\n";
+    static const char packed[] = "\x02\x00\x01\x02\x7F\x80\x01\x81\x01\x80\x80\x01\xFF\xFF\xFF\xFF\x07\x80\x80\x80\x80\x08"
+                                 "\x02\x08\x02\x11\x01\x00";
+    enum { TEXT = sizeof text - 1, PACKED = sizeof packed - 1 };
+    size_t told[FERRYSPRIG_PACK_ANSWER_NUMBERS] = {UNTOUCHED, UNTOUCHED};
+    ferrysprig_pack(NULL, 0, NULL, 0, told);
+    holds("a listing of nothing at all", told[0] == 43 && told[1] == 0);
+    told[0] = told[1] = UNTOUCHED;
+    ferrysprig_unpack(NULL, 0, NULL, 0, told);
+    holds("a packed listing of nothing at all", told[0] == 43 && told[1] == 0);
+    holds("a listing is packed", listed(true, text, TEXT, sizeof out, 0, packed, PACKED)
+              && listed(true, text, TEXT, PACKED, 0, packed, PACKED));
+    holds("and unpacked", listed(false, packed, PACKED, sizeof out, 0, text, TEXT) && listed(false, packed, PACKED, TEXT, 0, text, TEXT));
+    holds("a byte of output too few for a listing", listed(true, text, TEXT, PACKED - 1, 45, "", 0)
+              && listed(false, packed, PACKED, TEXT - 1, 45, "", 0));
+    bool beginnings = true;
+    for (size_t i = 0; i < TEXT; i++)
+        beginnings = beginnings && listed(true, text, i, sizeof out, 43, "", 0);
+    for (size_t i = 0; i < PACKED; i++)
+        beginnings = beginnings && listed(false, packed, i, sizeof out, 43, "", 0);
+    holds("every beginning of it", beginnings);
+    holds("malformed lines", unlisted("audio 1 2 -0\n", 40) && unlisted("audio 1 2 03\n", 40) && unlisted("audio 1 2 +3\n", 40)
+              && unlisted("audio 1  2 3\n", 40) && unlisted("refused 1 2 3\n", 40) && unlisted("1 2 3 4 5 6 7 8\n", 40)
+              && unlisted("\n", 40));
+    holds("numbers too large in a text", unlisted("audio 2147483648", 42) && unlisted("audio 99999999999999999999 x", 42));
+    holds("text left over", unlisted("audio 1 2 3\n\n", 44));
+    holds("needless groups", unpackable("\x80\x00", 2, 41) && unpackable("\x01\x01\xFF\x00", 4, 41)
+              && unpackable("\x80\x80\x80\x80\x80\x80\x00", 7, 41));
+    holds("numbers too large when packed", unpackable("\x81\x80\x80\x80\x08", 5, 42) && unpackable("\x80\x80\x80\x80\x80\x01", 6, 42));
+    holds("wrong row counts and words", unpackable("\x00", 1, 46) && unpackable("\x01\x00", 2, 46) && unpackable("\x01\x03", 2, 46));
+    holds("bytes left over", unpackable("\x01\x01\x01\x01\x01\x00", 6, 44));
+}
+
 static void try_texts(void) {
     static const char *const names[] = FERRYSPRIG_NAMES;
     static const char *const roles[] = FERRYSPRIG_ROLES;
@@ -474,13 +532,14 @@ static void try_texts(void) {
               && strcmp(meanings[23], "block 0 has snroffste 0") == 0
               && strcmp(meanings[24], "the header answer does not fit the input") == 0 && strcmp(meanings[33], "a byte after the frame is not 0") == 0
               && strcmp(meanings[26], "a hebap is above 19") == 0 && strcmp(meanings[36], "no entry of the list is left") == 0
+              && strcmp(meanings[40], "a line is malformed") == 0 && strcmp(meanings[45], "the output is too short for the listing") == 0
               && strcmp(meanings[57], "the width is not 1 to 16") == 0);
     static const char *const rules[] = FERRYSPRIG_RULES;
     holds("rules by their numbers", sizeof rules / sizeof *rules == 8 && strcmp(rules[0], "within the profile") == 0
               && strcmp(rules[FERRYSPRIG_RULE_WORDS], "the frame has fewer than 384 words") == 0
               && strcmp(rules[FERRYSPRIG_RULE_DIALNORM], "dialnorm is 0") == 0);
-    bool empty = meanings[29][0] == '\0';
-    for (int i = 38; i < 57; i++)
+    bool empty = meanings[29][0] == '\0' && meanings[38][0] == '\0' && meanings[39][0] == '\0';
+    for (int i = 47; i < 57; i++)
         empty = empty && meanings[i][0] == '\0';
     holds("no meanings where there is no refusal", empty);
 }
@@ -493,7 +552,7 @@ static ucontext_t here, there;
 
 /* What is called: the header of each frame of a stream and then its blocks; the profile and the parse of each; each frame written as a burst
    and read; the stream salvaged. (The deepest comes first: what binding takes is taken once.) And its bytes are walked over as if they were
-   AHT sections. */
+   AHT sections, and a listing is packed and unpacked. */
 static enum { APART, PARSES, BURSTS, SALVAGE, WAYS } way;
 
 static void call(void) {
@@ -501,6 +560,11 @@ static void call(void) {
     static size_t section[FERRYSPRIG_AHT_ANSWER_NUMBERS];
     for (size_t at = 0; at < 100; at++)
         ferrysprig_aht(stream, stream_len, at, 8 * stream_len, hebap, sizeof hebap, 0, sizeof hebap, section);
+    static const char text[] = "1 -1 2147483647 4 5 6 7 8 9\nrefused 7 1 16 0 -1\n";
+    static uint8_t packed[sizeof text], unpacked[sizeof text];
+    static size_t listing[FERRYSPRIG_PACK_ANSWER_NUMBERS];
+    ferrysprig_pack((const uint8_t *)text, sizeof text - 1, packed, sizeof packed, listing);
+    ferrysprig_unpack(packed, listing[FERRYSPRIG_PACK_ANSWER_WRITTEN], unpacked, sizeof unpacked, listing);
     static uint8_t back[FERRYSPRIG_MOST_BYTES];
     int32_t header[FERRYSPRIG_HEADER_ANSWER_NUMBERS];
     size_t place = 0, numbers = sizeof room / sizeof *room;
@@ -572,6 +636,7 @@ int main(int argc, char **argv) {
     try_bursts();
     try_salvage();
     try_profile();
+    try_listings();
     try_texts();
     try_stack(argc - 1, argv + 1);
     return all_hold ? 0 : 1;

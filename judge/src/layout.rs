@@ -99,3 +99,6 @@ pub type AhtAnswer = [usize; 3];
 
 /// An answer about the profile: refusal, rows of the parse, the first broken rule (0: none), the row that breaks it.
 pub type ProfileAnswer = [i32; 4];
+
+/// An answer about a packed listing, either way: refusal, bytes written.
+pub type PackAnswer = [usize; 2];

@@ -60,6 +60,7 @@ pub mod list;
 pub mod listing;
 pub mod moving;
 pub mod names;
+pub mod packed;
 pub mod parts;
 pub mod profile;
 pub mod profile_cases;

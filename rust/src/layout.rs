@@ -169,3 +169,16 @@ pub mod profile_answer_at {
 }
 
 pub type ProfileAnswer = [i32; PROFILE_ANSWER_NUMBERS];
+
+/// The numbers of an answer about a packed listing.
+pub const PACK_ANSWER_NUMBERS: usize = 2;
+
+/// Which number of an answer about a packed listing is which.
+pub mod pack_answer_at {
+    /// 0 if the listing was packed or unpacked.
+    pub const REFUSAL: usize = 0;
+    /// How many bytes were written to the output.
+    pub const WRITTEN: usize = 1;
+}
+
+pub type PackAnswer = [usize; PACK_ANSWER_NUMBERS];

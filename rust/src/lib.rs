@@ -71,6 +71,10 @@
 //!
 //! [`salvage`] goes through a damaged capture: it gives the frames that are left, one after the other, and a list of frames and gaps.
 //!
+//! # Packed listings
+//!
+//! [`listing`] turns the text that the listing program prints into the packed form that a log collector takes, and back.
+//!
 //! # The contribution profile
 //!
 //! [`profile`] says whether a frame is one that a carrier takes, and if not, which rule is broken by which field.
@@ -139,6 +143,7 @@ mod field;
 mod frame;
 mod header;
 mod layout;
+pub mod listing;
 mod names;
 mod parser;
 pub mod profile;

@@ -1,10 +1,11 @@
 //! The archive's functions (c/ferrysprig.h) as safe ones. All unsafe code of the crate stands here; compare/ takes this file, too.
 
 use crate::layout::{
-    answer_at, burst_answer_at, header_answer_at, profile_answer_at, salvage_answer_at, AhtAnswer,
-    Answer, BurstAnswer, HeaderAnswer, ProfileAnswer, SalvageAnswer, AHT_ANSWER_NUMBERS,
-    ANSWER_NUMBERS, BURST_ANSWER_NUMBERS, ENTRY_NUMBERS, HEADER_ANSWER_NUMBERS,
-    PROFILE_ANSWER_NUMBERS, ROW_NUMBERS, SALVAGE_ANSWER_NUMBERS,
+    answer_at, burst_answer_at, header_answer_at, pack_answer_at, profile_answer_at,
+    salvage_answer_at, AhtAnswer, Answer, BurstAnswer, HeaderAnswer, PackAnswer, ProfileAnswer,
+    SalvageAnswer, AHT_ANSWER_NUMBERS, ANSWER_NUMBERS, BURST_ANSWER_NUMBERS, ENTRY_NUMBERS,
+    HEADER_ANSWER_NUMBERS, PACK_ANSWER_NUMBERS, PROFILE_ANSWER_NUMBERS, ROW_NUMBERS,
+    SALVAGE_ANSWER_NUMBERS,
 };
 
 extern "C" {
@@ -99,6 +100,20 @@ extern "C" {
         first: usize,
         past: usize,
         answer: *mut AhtAnswer,
+    );
+    fn ferrysprig_pack(
+        listing: *const u8,
+        listing_len: usize,
+        out: *mut u8,
+        out_len: usize,
+        answer: *mut PackAnswer,
+    );
+    fn ferrysprig_unpack(
+        packed: *const u8,
+        packed_len: usize,
+        out: *mut u8,
+        out_len: usize,
+        answer: *mut PackAnswer,
     );
 }
 
@@ -335,4 +350,43 @@ pub fn salvage<'a>(
         .get(..answer[salvage_answer_at::WRITTEN])
         .expect("libferrysprig.a wrote more bytes than there is room for");
     (answer, listed, written)
+}
+
+/// Writes the packed form of the text `listing` to the front of `out`; the answer, and the bytes that it says were written.
+pub fn pack<'a>(listing: &[u8], out: &'a mut [u8]) -> (PackAnswer, &'a [u8]) {
+    let mut answer = [0; PACK_ANSWER_NUMBERS];
+    // SAFETY: each pointer and length is that of a slice or an array that lives through the call; `out` and `answer` are borrowed mutably,
+    // so nothing else refers to them. The function asks nothing more of its caller, writes only there, and keeps no pointer.
+    unsafe {
+        ferrysprig_pack(
+            listing.as_ptr(),
+            listing.len(),
+            out.as_mut_ptr(),
+            out.len(),
+            &mut answer,
+        );
+    }
+    (answer, packed_written(&answer, out))
+}
+
+/// Writes the text of the listing that `packed` is to the front of `out`; the answer, and the bytes that it says were written.
+pub fn unpack<'a>(packed: &[u8], out: &'a mut [u8]) -> (PackAnswer, &'a [u8]) {
+    let mut answer = [0; PACK_ANSWER_NUMBERS];
+    // SAFETY: as in `pack`.
+    unsafe {
+        ferrysprig_unpack(
+            packed.as_ptr(),
+            packed.len(),
+            out.as_mut_ptr(),
+            out.len(),
+            &mut answer,
+        );
+    }
+    (answer, packed_written(&answer, out))
+}
+
+/// What an answer about a packed listing says was written. (That the count fits is proved, as in `parse`.)
+fn packed_written<'a>(answer: &PackAnswer, out: &'a [u8]) -> &'a [u8] {
+    out.get(..answer[pack_answer_at::WRITTEN])
+        .expect("libferrysprig.a wrote more bytes than there is room for")
 }

@@ -7,13 +7,15 @@ mod layout;
 
 use ferrysprig::burst::{self, Refusal};
 use ferrysprig::profile::{Profile, Rule};
-use ferrysprig::{aht, blocks_into, edit, header, parse, salvage, Field, Role, NAMES, REFUSALS};
+use ferrysprig::{aht, blocks_into, edit, header, listing, parse, salvage, Field, Role};
 use ferrysprig::{LEAST_BYTES, MOST_BYTES, MOST_HEADER_ROWS, MOST_ROWS, ROW_NUMBERS};
+use ferrysprig::{NAMES, REFUSALS};
 use files::text;
+use layout::SALVAGE_ANSWER_NUMBERS;
 use layout::{aht_answer_at, answer_at, burst_answer_at, entry_at, header_answer_at};
-use layout::{kind, profile_answer_at, row_at, salvage_answer_at};
+use layout::{kind, pack_answer_at, profile_answer_at, row_at, salvage_answer_at};
 use layout::{AHT_ANSWER_NUMBERS, ANSWER_NUMBERS, BURST_ANSWER_NUMBERS, ENTRY_NUMBERS};
-use layout::{HEADER_ANSWER_NUMBERS, PROFILE_ANSWER_NUMBERS, SALVAGE_ANSWER_NUMBERS};
+use layout::{HEADER_ANSWER_NUMBERS, PACK_ANSWER_NUMBERS, PROFILE_ANSWER_NUMBERS};
 
 #[test]
 fn names_are_those_of_the_list() {
@@ -95,6 +97,9 @@ fn texts_are_those_of_the_header() {
     ] {
         say(refusal.number(), refusal.meaning());
     }
+    for refusal in listing::Refusal::ALL {
+        say(refusal.number(), refusal.meaning());
+    }
     for refusal in [
         edit::Refusal::WrongWidth,
         edit::Refusal::PastTheEnd,
@@ -128,6 +133,8 @@ fn numbers_are_those_of_the_header() {
     assert_eq!(AHT_ANSWER_NUMBERS, of_aht);
     let of_profile = number("FERRYSPRIG_PROFILE_ANSWER_NUMBERS");
     assert_eq!(PROFILE_ANSWER_NUMBERS, of_profile);
+    let of_pack = number("FERRYSPRIG_PACK_ANSWER_NUMBERS");
+    assert_eq!(PACK_ANSWER_NUMBERS, of_pack);
     assert_eq!(MOST_ROWS, number("FERRYSPRIG_MOST_ROWS"));
     assert_eq!(MOST_HEADER_ROWS, number("FERRYSPRIG_MOST_HEADER_ROWS"));
     assert_eq!(MOST_BYTES, number("FERRYSPRIG_MOST_BYTES"));
@@ -234,6 +241,10 @@ fn places_are_those_of_the_header() {
         ("RULE", profile_answer_at::RULE),
         ("ROW", profile_answer_at::ROW),
     ];
+    let pack = [
+        ("REFUSAL", pack_answer_at::REFUSAL),
+        ("WRITTEN", pack_answer_at::WRITTEN),
+    ];
     let rules = [
         ("FSCOD", Rule::Fscod),
         ("ACMOD", Rule::Acmod),
@@ -258,6 +269,7 @@ fn places_are_those_of_the_header() {
     assert_eq!(places("FERRYSPRIG_AHT_ANSWER_"), own(&aht));
     assert_eq!(places("FERRYSPRIG_PROFILE_ANSWER_"), own(&profile));
     assert_eq!(places("FERRYSPRIG_RULE_"), own(&rules));
+    assert_eq!(places("FERRYSPRIG_PACK_ANSWER_"), own(&pack));
 }
 
 #[test]

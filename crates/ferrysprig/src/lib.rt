@@ -1,5 +1,6 @@
 // The functions that Rust and C call. An exported function can take no enum and nothing that leads to one, so answers go as numbers.
 mod apart;
+mod packing;
 
 use ac3::Answer;
 use apart::HEADER_ANSWER;

@@ -1,0 +1,25 @@
+-- `listing::put_signed` meets its contract: `-1` byte by byte, or the digits of one less. Assumes nothing.
+use mathlib.Core.Path.{ap, _∙_}
+use mathlib.Core.List.{[], _∷_}
+use borrow.Author.Needs.{needs}
+use native.Mathlib.Omega.{arith}
+use lib.ListN.{length}
+use Rattle.listing.proofs.Decimals.{signed-none, signed-some}
+use Rattle.listing.proofs.Left.{both}
+use Rattle.listing.proofs.put_signed.Statement.{statement}
+use Rattle.listing.proofs.put_signed.Tie as tie
+
+pub put-signed-spec : {M : Type 1} → statement M
+put-signed-spec =
+    tie.close
+    (tie.spec
+    (λ c κs. omega (arith, ap length (signed-none (c .before .if1 .taken)), c .before .before .before .pre))  -- put-requires
+    (λ c κs. omega (arith, ap length (signed-none (c .before .before .before .before .before .if1 .taken)), c .before .before .before .before .before .before .before .pre, c .before .before .before .put .ensures .0, c .before .before .before .put .kept .0))  -- put-requires-2
+    (λ c. c .before .before .put2 .kept .0 ∙ c .before .before .before .before .before .before .put .kept .0)  -- same-length
+    (λ c.
+    let s = c .before .before .before .before .before .before .before .before .before .before in
+    rw (signed-none (c .before .before .before .before .before .before .before .before .if1 .taken)) (both (s .args .out .now) (s .args .at) (45 ∷ []) (49 ∷ []) (c .before .before .before .before .before .before .put .ensures) (c .before .before .put2 .ensures)))  -- returns
+    (λ c. search needs)  -- sub-put-decimal
+    (λ c κs. rw (signed-some (c .before .if1 .left)) at (c .before .before .before .pre))  -- put-decimal-requires
+    (λ c. search needs)  -- same-length-2
+    (λ c. rw (signed-some (c .before .before .before .before .if1 .left)) (c .before .before .put-decimal .ensures)))  -- returns-2

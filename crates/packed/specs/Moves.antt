@@ -1,0 +1,51 @@
+-- How the code goes over a text, by one byte or by a whole number at a time. No part of the definition: it says what a turn of the code is to
+-- the definition's reader.
+use mathlib.Core.Path.{_≡_}
+use mathlib.Core.List.{List, [], _∷_, _++_}
+use Prim.Native.Nat.{ℕ, _+_, _≤_, _<_}
+use lib.ListN.{length, drop, getD}
+use Rattle.listing.specs.Number.{signed, separator}
+use Rattle.packed.specs.declared.Part.{Part}
+use Rattle.packed.specs.declared.Part.the-variants.{Fresh, Minus, Closed, Open}
+use Rattle.packed.specs.declared.Next.the-variants.{Ended}
+use Rattle.packed.specs.declared.Text.{Text}
+use Rattle.packed.specs.declared.Text.the-variants.{Line, Row, Word, Last, End, Stop}
+use Rattle.packed.specs.declared.Spelt.{Spelt}
+use Rattle.packed.specs.Machine.{after, told}
+use Rattle.packed.specs.Text.{rowOn, lastOn}
+
+-- from the state s at byte i the reader goes to s′ at byte i′ and tells e
+pub record Moves {S : Type 0} (step : S → ℕ → S) (tell : S → ℕ → List ℕ) (bytes : List ℕ) (s : S) (i : ℕ) (e : List ℕ) (s′ : S) (i′ : ℕ) : Type 0 where
+  pub forward : i < i′
+  pub within : i′ ≤ length bytes
+  pub state : after step s (drop i bytes) ≡ after step s′ (drop i′ bytes)
+  pub tells : told step tell s (drop i bytes) ≡ e ++ told step tell s′ (drop i′ bytes)
+
+-- from byte i on stand a number and the byte that ends it, if an end is told
+abbrev pub SpeltAt : List ℕ → ℕ → ℕ → Spelt → Type 0
+SpeltAt bytes i s r =
+    i < r .end → (r .stored ≤ 2147483648) × (r .end ≤ length bytes) × (drop i bytes ≡ (signed (r .stored) ++ (s ∷ [])) ++ drop (r .end) bytes)
+
+-- the byte that ends a number which is to begin here, 0 where none is
+abbrev pub freshEnd : Part → ℕ → ℕ
+freshEnd Fresh left = separator left
+freshEnd Minus left = 0
+freshEnd (Closed v) left = 0
+freshEnd (Open n) left = 0
+
+abbrev pub numberEnd : Text → ℕ
+numberEnd (Line rows) = 32
+numberEnd (Row rows left p) = freshEnd p left
+numberEnd (Word rows at) = 0
+numberEnd (Last rows left p) = freshEnd p left
+numberEnd (End rows) = 0
+numberEnd (Stop n) = 0
+
+-- after a whole number
+abbrev pub numbered : Text → ℕ → Text
+numbered (Line rows) v = rowOn rows 8 (Ended v)
+numbered (Row rows left p) v = rowOn rows left (Ended v)
+numbered (Word rows at) v = Word rows at
+numbered (Last rows left p) v = lastOn rows left (Ended v)
+numbered (End rows) v = End rows
+numbered (Stop n) v = Stop n

@@ -1,0 +1,85 @@
+// A whole number of a text at once. What is not read here, as a number of ten digits or a malformed one, is read byte by byte.
+use super::Spelt;
+ghost use mathlib.Core.Path.{_≡_};
+ghost use mathlib.Core.Bool.{true};
+ghost use Prim.Native.Nat.{_+_, _≤_, _<_};
+ghost use lib.ListN.{length, getD};
+ghost use Rattle.packed.specs.Moves.{SpeltAt};
+
+// The digit at a place; 10 if there is none.
+fn digit_at(listing: &[u8], at: usize) -> usize
+    ensures { λ r. ⌜ (r < 10 → (at < length (now (listing .entry))) × (getD (now (listing .entry)) at 0 ≡ 48 + r)) ⌝ }
+{
+    if listing.len() <= at {
+        return 10;
+    }
+    let b = listing[at];
+    if b < 48 {
+        return 10;
+    }
+    if 57 < b {
+        return 10;
+    }
+    (b - 48) as usize
+}
+
+fn is_at(listing: &[u8], at: usize, b: u8) -> bool
+    ensures { λ r. ⌜ (r ≡ true → (at < length (now (listing .entry))) × (getD (now (listing .entry)) at 0 ≡ b)) ⌝ }
+{
+    if listing.len() <= at {
+        return false;
+    }
+    listing[at] == b
+}
+
+// A number that is whole before a place, if the byte there ends it.
+fn ended(listing: &[u8], at: usize, sep: u8, stored: usize) -> Spelt
+    ensures { λ r. ⌜ (0 < r .end → (r .stored ≡ stored) × (r .end ≡ at + 1) × (at < length (now (listing .entry))) × (getD (now (listing .entry)) at 0 ≡ sep)) ⌝ }
+{
+    if is_at(listing, at, sep) {
+        return Spelt {
+            stored,
+            end: at + 1,
+        };
+    }
+    Spelt { stored: 0, end: 0 }
+}
+
+// Digits from a place on, of which the first is not 0.
+fn digits(listing: &[u8], at: usize, first: usize, sep: u8) -> Spelt
+    requires { ⌜ (at < length (now listing)) × (getD (now listing) at 0 ≡ 48 + first) × (1 ≤ first) × (first < 10) ⌝ }
+    ensures { λ r. ⌜ SpeltAt (now (listing .entry)) at sep r ⌝ }
+{
+    let mut n = first;
+    let mut to = at + 1;
+    let mut d = digit_at(listing, to);
+    while d < 10 {
+        if 214748364 <= n {
+            return Spelt { stored: 0, end: 0 };
+        }
+        n = n * 10 + d;
+        to += 1;
+        d = digit_at(listing, to);
+    }
+    ended(listing, to, sep, n + 1)
+}
+
+// The number at a place that a byte ends.
+pub fn number_at(listing: &[u8], at: usize, sep: u8) -> Spelt
+    requires { ⌜ at < length (now listing) ⌝ }
+    ensures { λ r. ⌜ SpeltAt (now (listing .entry)) at sep r ⌝ }
+{
+    let first = digit_at(listing, at);
+    if first == 0 {
+        return ended(listing, at + 1, sep, 1);
+    }
+    if first < 10 {
+        return digits(listing, at, first, sep);
+    }
+    if is_at(listing, at, 45) {
+        if is_at(listing, at + 1, 49) {
+            return ended(listing, at + 2, sep, 0);
+        }
+    }
+    Spelt { stored: 0, end: 0 }
+}

@@ -99,3 +99,12 @@ pub type AhtAnswer = [usize; 3];
 
 /// An answer about the profile: refusal, rows of the parse, the first broken rule (0: none), the row that breaks it.
 pub type ProfileAnswer = [i32; 4];
+
+/// An answer about a level correction: refusal, rows of the parse, changes.
+pub type LevelAnswer = [i32; 3];
+
+/// The numbers of a change: name, old value, new value.
+pub const CHANGE: usize = 3;
+
+/// The list of changes: at most crc1, one level, crcrsv and crc2.
+pub type Changes = [i32; 4 * CHANGE];

@@ -7,11 +7,13 @@ mod layout;
 
 use ferrysprig::burst::{self, Refusal};
 use ferrysprig::profile::{Profile, Rule};
-use ferrysprig::{aht, blocks_into, edit, header, parse, salvage, Field, Role, NAMES, REFUSALS};
+use ferrysprig::{aht, blocks_into, edit, header, level, parse, salvage, Field, Role};
 use ferrysprig::{LEAST_BYTES, MOST_BYTES, MOST_HEADER_ROWS, MOST_ROWS, ROW_NUMBERS};
+use ferrysprig::{NAMES, REFUSALS};
 use files::text;
 use layout::{aht_answer_at, answer_at, burst_answer_at, entry_at, header_answer_at};
-use layout::{kind, profile_answer_at, row_at, salvage_answer_at};
+use layout::{change_at, kind, level_answer_at, profile_answer_at, row_at, salvage_answer_at};
+use layout::{tail_name, CHANGE_NUMBERS, LEVEL_ANSWER_NUMBERS, MOST_CHANGES};
 use layout::{AHT_ANSWER_NUMBERS, ANSWER_NUMBERS, BURST_ANSWER_NUMBERS, ENTRY_NUMBERS};
 use layout::{HEADER_ANSWER_NUMBERS, PROFILE_ANSWER_NUMBERS, SALVAGE_ANSWER_NUMBERS};
 
@@ -96,6 +98,13 @@ fn texts_are_those_of_the_header() {
         say(refusal.number(), refusal.meaning());
     }
     for refusal in [
+        level::Refusal::NoSuchProgramme,
+        level::Refusal::WrongLevel,
+        level::Refusal::NoTail,
+    ] {
+        say(refusal.number(), refusal.meaning());
+    }
+    for refusal in [
         edit::Refusal::WrongWidth,
         edit::Refusal::PastTheEnd,
         edit::Refusal::TooLarge,
@@ -128,6 +137,10 @@ fn numbers_are_those_of_the_header() {
     assert_eq!(AHT_ANSWER_NUMBERS, of_aht);
     let of_profile = number("FERRYSPRIG_PROFILE_ANSWER_NUMBERS");
     assert_eq!(PROFILE_ANSWER_NUMBERS, of_profile);
+    let of_level = number("FERRYSPRIG_LEVEL_ANSWER_NUMBERS");
+    assert_eq!(LEVEL_ANSWER_NUMBERS, of_level);
+    assert_eq!(CHANGE_NUMBERS, number("FERRYSPRIG_CHANGE_NUMBERS"));
+    assert_eq!(MOST_CHANGES, number("FERRYSPRIG_MOST_CHANGES"));
     assert_eq!(MOST_ROWS, number("FERRYSPRIG_MOST_ROWS"));
     assert_eq!(MOST_HEADER_ROWS, number("FERRYSPRIG_MOST_HEADER_ROWS"));
     assert_eq!(MOST_BYTES, number("FERRYSPRIG_MOST_BYTES"));
@@ -234,6 +247,18 @@ fn places_are_those_of_the_header() {
         ("RULE", profile_answer_at::RULE),
         ("ROW", profile_answer_at::ROW),
     ];
+    let of_level = [
+        ("REFUSAL", level_answer_at::REFUSAL),
+        ("ROWS", answer_at::ROWS),
+        ("CHANGES", level_answer_at::CHANGES),
+    ];
+    let change = [
+        ("NAME", change_at::NAME),
+        ("OLD", change_at::OLD),
+        ("NEW", change_at::NEW),
+    ];
+    let tail = [("CRCRSV", tail_name::CRCRSV), ("CRC2", tail_name::CRC2)]
+        .map(|(name, number)| (name, number as usize));
     let rules = [
         ("FSCOD", Rule::Fscod),
         ("ACMOD", Rule::Acmod),
@@ -258,6 +283,9 @@ fn places_are_those_of_the_header() {
     assert_eq!(places("FERRYSPRIG_AHT_ANSWER_"), own(&aht));
     assert_eq!(places("FERRYSPRIG_PROFILE_ANSWER_"), own(&profile));
     assert_eq!(places("FERRYSPRIG_RULE_"), own(&rules));
+    assert_eq!(places("FERRYSPRIG_LEVEL_ANSWER_"), own(&of_level));
+    assert_eq!(places("FERRYSPRIG_CHANGE_"), own(&change));
+    assert_eq!(places("FERRYSPRIG_NAME_"), own(&tail));
 }
 
 #[test]

@@ -100,7 +100,11 @@ fn position(rows: &[i32], count: usize, name: u8) -> usize
     ensures { λ r. ⌜ r ≡ positionIn count name (now (rows .entry)) ⌝ }
 {
     let i = rows::first(rows, count, name);
-    if i < count { natural(rows[i * ROW + POSITION]) } else { 0 }
+    if i < count {
+        natural(rows[i * ROW + POSITION])
+    } else {
+        0
+    }
 }
 
 // Corrects the level of a programme, counted from 1, in the frame at a place of a capture. On a refusal capture and changes are untouched.
@@ -128,7 +132,15 @@ pub fn correct(
     let header = summary.header;
     let name = dialnorm_of(programme);
     let at = position(rows, count, name);
-    let listed = mend::mend(&mut capture[place..], header.bytes, at, DIALNORM_WIDTH, level as u32, name, changes);
+    let listed = mend::mend(
+        &mut capture[place..],
+        header.bytes,
+        at,
+        DIALNORM_WIDTH,
+        level as u32,
+        name,
+        changes,
+    );
     Answer {
         refusal: 0,
         rows: count,

@@ -1,11 +1,13 @@
 -- The list of changes, one after the other; where nothing changed it is empty. Assumes nothing.
 use Prim.Native.Nat.{ℕ, suc, _+_, _≤_}
+use mathlib.Core.Bool.{Bool, true, false, cond}
 use mathlib.Core.List.{List, [], _∷_, _++_}
 use mathlib.Core.Path.{_≡_, refl, ap, sym, _∙_}
 use native.Mathlib.Nat.{add-zero, add-suc, suc-add}
 use native.Mathlib.Omega.{arith}
 use borrow.Author.Tests.{eq-eqb}
-use lib.IntN.{ℤ}
+use lib.Dec.{eqb}
+use lib.IntN.{ℤ, pos}
 use lib.ListN.{length, set, length-append}
 use lib.Seq.{sets}
 use Rattle.syntax.specs.Names as Name
@@ -39,3 +41,25 @@ next l xs ys {to = to} (before, place) (written, longer, short) =
 pub unchanged : (name words : ℕ) (s : List ℕ) (at n v : ℕ) → afterMend words s at n v ≡ s → changes name words s at n v ≡ []
 unfolding changes
 unchanged name words s at n v e = ap (λ t. changesOf name (fieldsOf words s at n) (fieldsOf words t at n)) e ∙ none name (fieldsOf words s at n)
+
+-- there are four fields
+one-change : (name old new : ℕ) → length (changed name old new) ≤ 3
+unfolding changed
+one-change name old new = go (eqb old new)
+  where
+    go : (b : Bool) → length (cond b [] (pos name ∷ pos old ∷ pos new ∷ [])) ≤ 3
+    go true = omega arith
+    go false = omega arith
+
+four : (a b c d : List ℤ) → length a ≤ 3 → length b ≤ 3 → length c ≤ 3 → length d ≤ 3 → length (a ++ b ++ c ++ d) ≤ 12
+four a b c d ha hb hc hd = omega (arith, length-append a (b ++ c ++ d), length-append b (c ++ d), length-append c d, length-append (a ++ b ++ c) d, length-append (a ++ b) c, length-append a b)
+
+of-fields : (name : ℕ) (old new : Fields) → length (changesOf name old new) ≤ 12
+unfolding changesOf
+of-fields name old new =
+    four (changed Name.crc1 (old .crc1) (new .crc1)) (changed name (old .field) (new .field)) (changed crcrsv (old .crcrsv) (new .crcrsv)) (changed crc2 (old .crc2) (new .crc2))
+    (one-change Name.crc1 (old .crc1) (new .crc1)) (one-change name (old .field) (new .field)) (one-change crcrsv (old .crcrsv) (new .crcrsv)) (one-change crc2 (old .crc2) (new .crc2))
+
+pub few-changes : (name words : ℕ) (s : List ℕ) (at n v : ℕ) → length (changes name words s at n v) ≤ 12
+unfolding changes
+few-changes name words s at n v = of-fields name (fieldsOf words s at n) (fieldsOf words (afterMend words s at n v) at n)

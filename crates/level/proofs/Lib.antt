@@ -1,0 +1,4 @@
+pub mod Refusing
+pub mod Correcting
+pub mod Few
+pub mod Where

@@ -3,12 +3,12 @@
    proved.
 
    The functions have no state: no heap, no globals, no files, no signals. Any number of threads may call them at once, each with its own
-   `rows`, `list`, `out`, `changes` and `answer` (and `capture`, where it is written to). The archive needs memcpy, memmove and memset, and nothing
-   else.
+   `rows`, `list`, `out`, `changes` and `answer` (and `capture`, where it is written to). The archive needs memcpy, memmove and memset, and
+   nothing else.
 
-   An edit breaks the checksums: but for the sync word, crc1 guards the first five eighths of a frame and crc2 all of it. Whoever changes a
-   field makes crc2 wrong, and crc1 too where the field stands that early, and a decoder may then drop the frame. ferrysprig_correct mends
-   them with the level that it writes; the other functions neither check nor mend them. */
+   An edit breaks the checksums: but for the sync word, crc1 guards the first five eighths of a frame and crc2 all of it. Whoever changes
+   a field makes crc2 wrong, and crc1 too where the field stands that early, and a decoder may then drop the frame. ferrysprig_correct
+   mends them with the level that it writes; the other functions neither check nor mend them. */
 #ifndef FERRYSPRIG_H
 #define FERRYSPRIG_H
 
@@ -262,12 +262,12 @@ enum {
 /* Changes that no correction exceeds: crc1, a level, crcrsv and crc2. */
 #define FERRYSPRIG_MOST_CHANGES 4
 
-/* Writes the level (1 to 31) of a programme, counted from 1, into the frame at byte `place` of `capture`, then crc1, then crc2; if crc2 would
-   be 0x0B77, crcrsv is flipped first. Both checksums are right then, no other bit is changed, and the fields whose values are others than
-   before are listed, in frame order. The frame is parsed once, before the change, into the lent `rows`, with the refusals of
-   ferrysprig_parse; then 50 is given if there is no such programme (2 is there only with acmod 0), 51 if the level is not 1 to 31, 52 if the
-   audio ends later than 18 bits before the frame's end, in this order. On a refusal no byte is changed. Any input is answered; `capture`,
-   `rows`, `changes` and `answer` overlap nothing. Numbers of `changes` past those listed are not touched. */
+/* Writes the level (1 to 31) of a programme, counted from 1, into the frame at byte `place` of `capture`, then crc1, then crc2; if crc2
+   would be 0x0B77, crcrsv is flipped first. Both checksums are right then, no other bit is changed, and the fields whose values are
+   others than before are listed, in frame order. The frame is parsed once, before the change, into the lent `rows`, with the refusals of
+   ferrysprig_parse; then 50 is given if there is no such programme (2 is there only with acmod 0), 51 if the level is not 1 to 31, 52 if
+   the audio ends later than 18 bits before the frame's end, in this order. On a refusal no byte is changed. Any input is answered;
+   `capture`, `rows`, `changes` and `answer` overlap nothing. Numbers of `changes` past those listed are not touched. */
 void ferrysprig_correct(uint8_t *capture, size_t capture_len, size_t place, size_t programme, size_t level, int32_t *rows, size_t rows_len,
                         int32_t changes[FERRYSPRIG_MOST_CHANGES * FERRYSPRIG_CHANGE_NUMBERS],
                         int32_t answer[FERRYSPRIG_LEVEL_ANSWER_NUMBERS]);

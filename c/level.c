@@ -1,7 +1,7 @@
-/* level IN OUT PROGRAMME LEVEL: writes a dialogue level (1 to 31) of a programme, counted from 1, into every frame of an .ac3 file, mends the
-   checksums, writes the whole to a new file and prints what changed in each frame. The exit status is 0 if every byte of the file belonged to
-   a frame that was corrected, 1 if not, and then no file is made; 2 if the program was called wrongly, could not read or could not write.
-   The file is mapped so that what is written to it stays with this program. */
+/* level IN OUT PROGRAMME LEVEL: writes a dialogue level (1 to 31) of a programme, counted from 1, into every frame of an .ac3 file,
+   mends the checksums, writes the whole to a new file and prints what changed in each frame. The exit status is 0 if every byte of the
+   file belonged to a frame that was corrected, 1 if not, and then no file is made; 2 if the program was called wrongly, could not read
+   or could not write. The file is mapped so that what is written to it stays with this program. */
 #define _POSIX_C_SOURCE 200809L /* for mmap */
 #include "ferrysprig.h"
 #include <errno.h>

@@ -310,9 +310,11 @@ static void try_levels(void) {
     holds("a number of room too few for a level", corrects(SURROUNDED, 1, 1, 24, ROWS - 1, 7, 94, 0, NULL));
     holds("programmes that are not there", corrects(SURROUNDED, 1, 0, 24, ROWS, 50, 95, 0, NULL)
               && corrects(SURROUNDED, 1, 2, 0, ROWS, 50, 95, 0, NULL) && corrects(SURROUNDED, 1, SIZE_MAX, 24, ROWS, 50, 95, 0, NULL));
-    holds("levels that are none", corrects(SURROUNDED, 1, 1, 0, ROWS, 51, 95, 0, NULL) && corrects(SURROUNDED, 1, 1, 32, ROWS, 51, 95, 0, NULL)
+    holds("levels that are none", corrects(SURROUNDED, 1, 1, 0, ROWS, 51, 95, 0, NULL)
+              && corrects(SURROUNDED, 1, 1, 32, ROWS, 51, 95, 0, NULL)
               && corrects(SURROUNDED, 1, 1, ((size_t)1 << 32) + 24, ROWS, 51, 95, 0, NULL));
-    holds("a level is written", corrects(SURROUNDED, 1, 1, 24, ROWS, 0, 95, 2, to_24) && word(2) == 0xF7CA && word(6) == 0x2C00 && word(126) == 0);
+    holds("a level is written", corrects(SURROUNDED, 1, 1, 24, ROWS, 0, 95, 2, to_24) && word(2) == 0xF7CA
+              && word(6) == 0x2C00 && word(126) == 0);
     holds("a second time nothing changes", corrects(SURROUNDED, 1, 1, 24, ROWS, 0, 95, 0, NULL));
     surrounded[BEHIND - 2] = 0x12;
     surrounded[BEHIND - 1] = 0x34;
@@ -321,7 +323,8 @@ static void try_levels(void) {
     surrounded[1 + 123] = 0x01; /* this word before auxdatae makes crc2 the sync word */
     surrounded[1 + 124] = 0x3C;
     surrounded[1 + 125] = 0x90;
-    holds("crcrsv is flipped", corrects(SURROUNDED, 1, 1, 24, ROWS, 0, 95, 4, flipped) && surrounded[1 + 125] == 0x91 && word(126) == 0x8B72);
+    holds("crcrsv is flipped", corrects(SURROUNDED, 1, 1, 24, ROWS, 0, 95, 4, flipped) && surrounded[1 + 125] == 0x91
+              && word(126) == 0x8B72);
     holds("and stays so", corrects(SURROUNDED, 1, 1, 24, ROWS, 0, 95, 0, NULL));
 }
 
@@ -560,9 +563,9 @@ static uint8_t stream[65536];
 static size_t stream_len;
 static ucontext_t here, there;
 
-/* What is called: the header of each frame of a stream and then its blocks; another level, the profile and the parse of each; each frame written as a burst
-   and read; the stream salvaged. (The deepest comes first: what binding takes is taken once.) And its bytes are walked over as if they were
-   AHT sections. */
+/* What is called: the header of each frame of a stream and then its blocks; another level, the profile and the parse of each; each frame
+   written as a burst and read; the stream salvaged. (The deepest comes first: what binding takes is taken once.) And its bytes are
+   walked over as if they were AHT sections. */
 static enum { APART, PARSES, BURSTS, SALVAGE, WAYS } way;
 
 static void call(void) {

@@ -1,5 +1,5 @@
-//! Level correction: the cases to be tried by name, each with the answer that its description gives, written out; that exactly one crc1 fits;
-//! and slips that the generator's calls must notice.
+//! Level correction: the cases to be tried by name, each with the answer that its description gives, written out; that exactly one crc1
+//! fits; and slips that the generator's calls must notice.
 
 use judge::agree::fresh_room;
 use judge::bits;

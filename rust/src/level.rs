@@ -205,8 +205,8 @@ pub fn correct_level(
     in_kept_room(|room| correct_level_into(capture, place, programme, level, room))
 }
 
-/// Does what [`correct_level`] does, in room that the caller lends, as [`parse_into`](crate::parse_into) takes it. The rows there are those of
-/// the frame as it was.
+/// Does what [`correct_level`] does, in room that the caller lends, as [`parse_into`](crate::parse_into) takes it. The rows there are those
+/// of the frame as it was.
 pub fn correct_level_into(
     capture: &mut [u8],
     place: usize,

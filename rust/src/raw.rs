@@ -349,8 +349,8 @@ pub fn salvage<'a>(
     (answer, listed, written)
 }
 
-/// Writes the level of a programme, counted from 1, into the frame at byte `place` of `capture`, and mends its checksums; the answer, and the
-/// numbers of the changes that it says were listed.
+/// Writes the level of a programme, counted from 1, into the frame at byte `place` of `capture`, and mends its checksums; the answer, and
+/// the numbers of the changes that it says were listed.
 pub fn correct<'a>(
     capture: &mut [u8],
     place: usize,

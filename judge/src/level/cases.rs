@@ -1,7 +1,7 @@
 //! The generator of calls about level correction, the same for the same seed and size: every level of both programmes; frames of every size
 //! and rate; an encoder's frames and drawn ones; every set of fields that may change together; frames made so that crc2 would be the sync
-//! word, or almost; frames whose audio ends at every bit near the end; every refusal, and each two together; places, rooms, and every input of
-//! the parser. Each answer is held against one derived a second time, with the published `fix_crcs`, and against what is said of every
+//! word, or almost; frames whose audio ends at every bit near the end; every refusal, and each two together; places, rooms, and every input
+//! of the parser. Each answer is held against one derived a second time, with the published `fix_crcs`, and against what is said of every
 //! correction: a disagreement stops the program.
 
 use super::{back, correct, crc1, crc2, five_eighths, on, register};
@@ -229,7 +229,8 @@ impl<'s> Levels<'s> {
         let again = derived(capture, place, programme, level, numbers);
         if (told, &after, &room, changes) != (again.0, &again.1, &again.2, again.3) {
             let input = hex::of(capture);
-            panic!("place {place}, programme {programme}, level {level} of {input}: {told:?}, {:?} is derived, or what is lent differs", again.0);
+            println!("place {place}, programme {programme}, level {level} of {input}");
+            panic!("{told:?}, {:?} is derived, or what is lent differs", again.0);
         }
         *self.refused.entry(told[0]).or_default() += 1;
         if told[0] == 0 {

@@ -1,6 +1,6 @@
-//! level_against SEED SIZE: runs the generator of calls about level correction and holds the port's answer, every byte of its capture, every
-//! number of its room and every number of its list of changes against the judge's. Prints what was compared; status 1 on a difference, or
-//! where something that is to be compared was not met.
+//! level_against SEED SIZE: runs the generator of calls about level correction and holds the port's answer, every byte of its capture,
+//! every number of its room and every number of its list of changes against the judge's. Prints what was compared; status 1 on a
+//! difference, or where something that is to be compared was not met.
 
 use compare_level::layout::LevelAnswer;
 use compare_level::raw;

@@ -136,8 +136,7 @@ module _ (p : ℕ) (lt : p < 2) where
     λ xbsi1e. when-passed name Any (eqb xbsi1e 1) _ _ (inr (
       λ e. omega (arith, e, lt),
       inr (λ e. omega (arith, e, lt), inr (λ e. omega (arith, e, lt), inr (λ e. omega (arith, e, lt), inr (λ e. omega (arith, e, lt), tt)))),
-    ))
-    (
+    )) (
       λ e. omega (arith, e, lt),
       λ xbsi2e. when-last name (eqb xbsi2e 1) _ (inr (
         λ e. omega (arith, e, lt),
@@ -151,7 +150,7 @@ module _ (p : ℕ) (lt : p < 2) where
   of-time = (
     λ e. omega (arith, e, lt),
     λ first. when-passed name Any (eqb first 1) _ _ (inr (λ e. omega (arith, e, lt), tt))
-    (λ e. omega (arith, e, lt), λ second. when-last name (eqb second 1) _ (inr (λ e. omega (arith, e, lt), tt))),
+        (λ e. omega (arith, e, lt), λ second. when-last name (eqb second 1) _ (inr (λ e. omega (arith, e, lt), tt))),
   )
 
   of-additional : Meets name Any additionalInfo
@@ -172,11 +171,10 @@ first-passed = inr (
   λ e. omega (arith, e),
   (
     λ e. omega (arith, e),
-    λ compre. when-passed _ Any (eqb compre 1) _ _ (inr (λ e. omega (arith, e), tt))
-    (
+    λ compre. when-passed _ Any (eqb compre 1) _ _ (inr (λ e. omega (arith, e), tt)) (
       λ e. omega (arith, e),
       λ langcode. when-passed _ Any (eqb langcode 1) _ _ (inr (λ e. omega (arith, e), tt))
-      (λ e. omega (arith, e), λ audprodie. when-last _ (eqb audprodie 1) _ (inr (λ e. omega (arith, e), inr (λ e. omega (arith, e), tt)))),
+          (λ e. omega (arith, e), λ audprodie. when-last _ (eqb audprodie 1) _ (inr (λ e. omega (arith, e), inr (λ e. omega (arith, e), tt)))),
     ),
   ),
 )
@@ -208,18 +206,17 @@ module _ (p : ℕ) (lt : p < 2) where
       (
         λ e. omega (arith, e),
         λ acmod. when-passed _ _ (eqb (acmod % 2) 1 && not (eqb acmod 1)) _ _ (inr (λ e. omega (arith, e), tt))
-        (when-passed _ _ (leb 4 acmod) _ _ (inr (λ e. omega (arith, e), tt))
-        (when-passed _ _ (eqb acmod 2) _ _ (inr (λ e. omega (arith, e), tt))
-        (
-          λ e. omega (arith, e),
-          λ lfeon. of-programmes _ _ p lt (eqb acmod 0) (λ few. inr (
-            λ e. omega (arith, e, lt),
-            inr (
-              λ e. omega (arith, e, lt),
-              bound _ Any _ _ (λ _ _. bound _ Any _ _ (λ _ _. few) additionalInfo (of-additional p lt)) (cond (eqb bsid 6) alternateInfo timeCodes) (either p lt (eqb bsid 6)),
-            ),
-          )),
-        ))),
+            (when-passed _ _ (leb 4 acmod) _ _ (inr (λ e. omega (arith, e), tt))
+            (when-passed _ _ (eqb acmod 2) _ _ (inr (λ e. omega (arith, e), tt)) (
+              λ e. omega (arith, e),
+              λ lfeon. of-programmes _ _ p lt (eqb acmod 0) (λ few. inr (
+                λ e. omega (arith, e, lt),
+                inr (
+                  λ e. omega (arith, e, lt),
+                  bound _ Any _ _ (λ _ _. bound _ Any _ _ (λ _ _. few) additionalInfo (of-additional p lt)) (cond (eqb bsid 6) alternateInfo timeCodes) (either p lt (eqb bsid 6)),
+                ),
+              )),
+            ))),
       ),
     )),
   )

@@ -3,7 +3,7 @@
 -- frame is accepted as before. Assumes nothing.
 use mathlib.Core.Bool.{Bool, true, false, cond, _&&_}
 use mathlib.Core.List.{List, [], _∷_, _++_}
-use mathlib.Core.Path.{_≡_, refl, ap, ap₂, sym, subst, _∙_}
+use mathlib.Core.Path.{_≡_, refl, ap, sym, subst, _∙_}
 use Prim.Native.Nat.{ℕ, zero, suc, _+_, _-_, _*_, _/_, _^_, _≤_, _<_}
 use native.Mathlib.Nat.{mod-eq-of-lt}
 use native.Mathlib.Omega.{arith}
@@ -27,15 +27,15 @@ use Rattle.syntax.specs.Run.{Row, row, steering, unsteering}
 use Rattle.syntax.proofs.Tiles.{tiles-le}
 use Rattle.header.specs.Header.{programmes}
 use Rattle.ac3.specs.Marked.{among}
-use Rattle.ac3.specs.Promise.{Call, call, input, roomFor, listed, answerTo, Accepted, Promised}
+use Rattle.ac3.specs.Promise.{Call, call, input, listed, answerTo, Accepted, Promised}
 use Rattle.ac3.specs.Rooms.{natural, said, rowCount, endBit}
 use Rattle.ac3.specs.Within.{Within}
 use Rattle.ac3.proofs.Promise.{promised}
 use Rattle.ac3.proofs.Rooms.{rooms-demand3}
 use Rattle.ac3.proofs.Within.{kept-within}
-use Rattle.rows.specs.Found.{First, opening, rowAt}
+use Rattle.rows.specs.Found.{First, opening}
 use Rattle.rows.specs.Framed.{SameFrame}
-use Rattle.rows.specs.Look.{nameColumn, valueColumn, isName, named, first, firstWhere}
+use Rattle.rows.specs.Look.{nameColumn, isName, named, first, firstWhere}
 use Rattle.rows.proofs.Found.{looks-up}
 use Rattle.rows.proofs.Framed.{rows-count}
 use Rattle.rows.proofs.Opening.{opens}
@@ -44,7 +44,7 @@ use Rattle.edits.specs.Freely.{frontIsEditable, heldRow, setIn, Sets}
 use Rattle.edits.proofs.OneField.{set-freely}
 use Rattle.mend.specs.Changes as mend
 use Rattle.mend.specs.Mend.{FirstIsZero, WholeIsZero, mended, afterMend}
-use Rattle.mend.specs.Mends.{Field, Mended, Outside}
+use Rattle.mend.specs.Mends.{Field, Mended}
 use Rattle.mend.proofs.Frames.{in-frame}
 use Rattle.mend.proofs.Listing.{unchanged, four-changes}
 use Rattle.mend.proofs.Mends.{mends, one-crc1, front}

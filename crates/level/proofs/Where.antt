@@ -11,7 +11,7 @@ use Rattle.bits.specs.Bits.{value}
 use Rattle.bits.proofs.Window.{value-lt}
 use Rattle.tables.specs.Tables.{frameBytes}
 use Rattle.syntax.specs.declared.Refusal.{Refusal}
-use Rattle.syntax.specs.Grammar.{Grammar, done, refuse, field, free, span, walk, frame, here, _>>=_, plain, note, when, refuseIf, turns, each}
+use Rattle.syntax.specs.Grammar.{Grammar, done, refuse, field, free, span, walk, frame, here, _>>=_, when, refuseIf, turns, each}
 use Rattle.syntax.specs.Names as Name
 use Rattle.syntax.specs.Refusals.{notSync, noFrameSize, badBsid}
 use Rattle.syntax.specs.Run.{Row, Spot, End, reached, refused, Result, Check, clear, stop, _after_, unless, run, continue, rowCheck, walkCheck, frameCheck, sum, beyond, within, start}

@@ -51,7 +51,7 @@ use Rattle.mend.proofs.Mends.{mends, one-crc1, front}
 use Rattle.level.specs.Level.{fromZero, wordsOf, refusalFor, dialnormOf, dialnormWidth, positionColumn, positionIn, Left, levelled, untouched, correctTo}
 use Rattle.level.specs.Corrected.{left, answerIn, changesIn, captureIn, afterwards, levelRow, levelAt, frameWords, crc1Row, valueOfRow, Corrected, CorrectsLevel, RefusesUntouched}
 use Rattle.level.proofs.Refusing.{Fits, fits}
-use Rattle.level.proofs.Where.{found}
+use Rattle.level.proofs.Where.{found, even-bytes}
 
 -- ---- the first row of a name
 
@@ -378,6 +378,7 @@ module _ (c : Call) (programme level : ℕ) (changes : List ℤ) (free : refusal
   corrected : Corrected c programme level changes d words at
   corrected =
       record {
+        whole-words = omega (arith, even-bytes c ok .1);
         written = ap (λ s. value s at dialnormWidth) input-is ∙ good .written ∙ mod-eq-of-lt small;
         others = λ p out. ap (λ s. bitAt s p) input-is ∙ good .others p out;
         before = ap (take (c .place)) capture-is ∙ take-at (take (c .place) (c .capture)) new (c .place) front-long;

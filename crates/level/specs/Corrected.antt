@@ -58,6 +58,8 @@ valueOfRow i = i * rowWidth + valueColumn
 
 -- d is the parse afterwards; the frame has so many words, and dialnorm is at this bit
 pub record Corrected (c : Call) (programme level : ℕ) (changes : List ℤ) (d : Call) (words at : ℕ) : Type 0 where
+  -- two bytes to a word
+  pub whole-words : answerTo c .0 .summary .header .bytes ≡ 2 * words
   -- dialnorm holds the level
   pub written : value (input d) at dialnormWidth ≡ level
   -- only these fields change: from the place on every bit outside crc1, dialnorm, crcrsv and crc2 is as it was, the bits after the frame too;

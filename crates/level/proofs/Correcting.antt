@@ -14,7 +14,7 @@ use Rattle.ac3.specs.Within.{Within}
 use Rattle.ac3.specs.declared.Answer as parse
 use Rattle.mend.specs.Mend.{afterMend}
 use Rattle.mend.specs.Changes as mend
-use Rattle.level.specs.Level.{wordsOf, refusalFor, dialnormOf, dialnormWidth, positionIn, Left, levelled, untouched, leftBy, correctTo}
+use Rattle.level.specs.Level.{wordsOf, refusalFor, dialnormOf, dialnormWidth, positionIn, levelled, untouched, leftBy, correctTo}
 use Rattle.level.specs.declared.Answer.{Answer}
 use Rattle.level.proofs.Refusing.{fits}
 

@@ -1,17 +1,18 @@
--- The grammar of a header reads dialnorm for each programme that the frame has, so its row is there. Assumes nothing.
+-- The grammar of a header reads dialnorm for each programme that the frame has, so its row is there; and the tables count a frame's words.
+-- Assumes nothing.
 use mathlib.Core.Bool.{Bool, true, false, not, _&&_, cond}
 use mathlib.Core.List.{List, [], _∷_, _++_}
 use mathlib.Core.Logic.{_⊎_, inl, inr}
 use mathlib.Core.Path.{_≡_, refl, ap, sym, subst, _∙_}
-use Prim.Native.Nat.{ℕ, zero, suc, _+_, _*_, _%_, _≤_, _<_}
+use Prim.Native.Nat.{ℕ, zero, suc, _+_, _*_, _/_, _%_, _≤_, _<_}
 use native.Mathlib.Omega.{arith}
 use lib.Dec.{eqb, leb, ltb}
-use lib.ListN.{length}
+use lib.ListN.{length, getD}
 use Rattle.bits.specs.Bits.{value}
 use Rattle.bits.proofs.Window.{value-lt}
-use Rattle.tables.specs.Tables.{frameBytes}
+use Rattle.tables.specs.Tables.{words48, words44, words32, frameBytes}
 use Rattle.syntax.specs.declared.Refusal.{Refusal}
-use Rattle.syntax.specs.Grammar.{Grammar, done, refuse, field, free, span, walk, frame, here, _>>=_, plain, note, when, refuseIf, turns, each}
+use Rattle.syntax.specs.Grammar.{Grammar, done, refuse, field, free, span, walk, frame, here, _>>=_, when, refuseIf, turns, each}
 use Rattle.syntax.specs.Names as Name
 use Rattle.syntax.specs.Refusals.{notSync, noFrameSize, badBsid}
 use Rattle.syntax.specs.Run.{Row, Spot, End, reached, refused, Result, Check, clear, stop, _after_, unless, run, continue, rowCheck, walkCheck, frameCheck, sum, beyond, within, start}
@@ -21,8 +22,10 @@ use Rattle.header.specs.declared.Header.{Header}
 use Rattle.ac3.specs.AtMost.{AtMost, a-done, a-refuse, a-field, a-free, a-span, a-walk, a-frame, a-here}
 use Rattle.ac3.specs.Frame.{Audio, audio, syncframe}
 use Rattle.ac3.specs.Promise.{Call, input, roomFor, listed, Reaches, answerTo, Accepted}
+use Rattle.ac3.specs.RowBound.{mostRows}
+use Rattle.ac3.proofs.AtMost as bounds
 use Rattle.ac3.proofs.Promise.{promised, reaches}
-use Rattle.ac3.proofs.RowBound.{a-audio}
+use Rattle.ac3.proofs.RowBound.{a-bsi, a-audio}
 use Rattle.rows.specs.Found.{First}
 use Rattle.level.specs.Level.{dialnormWidth}
 
@@ -136,8 +139,7 @@ module _ (p : ℕ) (lt : p < 2) where
     λ xbsi1e. when-passed name Any (eqb xbsi1e 1) _ _ (inr (
       λ e. omega (arith, e, lt),
       inr (λ e. omega (arith, e, lt), inr (λ e. omega (arith, e, lt), inr (λ e. omega (arith, e, lt), inr (λ e. omega (arith, e, lt), tt)))),
-    ))
-    (
+    )) (
       λ e. omega (arith, e, lt),
       λ xbsi2e. when-last name (eqb xbsi2e 1) _ (inr (
         λ e. omega (arith, e, lt),
@@ -151,7 +153,7 @@ module _ (p : ℕ) (lt : p < 2) where
   of-time = (
     λ e. omega (arith, e, lt),
     λ first. when-passed name Any (eqb first 1) _ _ (inr (λ e. omega (arith, e, lt), tt))
-    (λ e. omega (arith, e, lt), λ second. when-last name (eqb second 1) _ (inr (λ e. omega (arith, e, lt), tt))),
+        (λ e. omega (arith, e, lt), λ second. when-last name (eqb second 1) _ (inr (λ e. omega (arith, e, lt), tt))),
   )
 
   of-additional : Meets name Any additionalInfo
@@ -172,11 +174,10 @@ first-passed = inr (
   λ e. omega (arith, e),
   (
     λ e. omega (arith, e),
-    λ compre. when-passed _ Any (eqb compre 1) _ _ (inr (λ e. omega (arith, e), tt))
-    (
+    λ compre. when-passed _ Any (eqb compre 1) _ _ (inr (λ e. omega (arith, e), tt)) (
       λ e. omega (arith, e),
       λ langcode. when-passed _ Any (eqb langcode 1) _ _ (inr (λ e. omega (arith, e), tt))
-      (λ e. omega (arith, e), λ audprodie. when-last _ (eqb audprodie 1) _ (inr (λ e. omega (arith, e), inr (λ e. omega (arith, e), tt)))),
+          (λ e. omega (arith, e), λ audprodie. when-last _ (eqb audprodie 1) _ (inr (λ e. omega (arith, e), inr (λ e. omega (arith, e), tt)))),
     ),
   ),
 )
@@ -208,18 +209,17 @@ module _ (p : ℕ) (lt : p < 2) where
       (
         λ e. omega (arith, e),
         λ acmod. when-passed _ _ (eqb (acmod % 2) 1 && not (eqb acmod 1)) _ _ (inr (λ e. omega (arith, e), tt))
-        (when-passed _ _ (leb 4 acmod) _ _ (inr (λ e. omega (arith, e), tt))
-        (when-passed _ _ (eqb acmod 2) _ _ (inr (λ e. omega (arith, e), tt))
-        (
-          λ e. omega (arith, e),
-          λ lfeon. of-programmes _ _ p lt (eqb acmod 0) (λ few. inr (
-            λ e. omega (arith, e, lt),
-            inr (
-              λ e. omega (arith, e, lt),
-              bound _ Any _ _ (λ _ _. bound _ Any _ _ (λ _ _. few) additionalInfo (of-additional p lt)) (cond (eqb bsid 6) alternateInfo timeCodes) (either p lt (eqb bsid 6)),
-            ),
-          )),
-        ))),
+            (when-passed _ _ (leb 4 acmod) _ _ (inr (λ e. omega (arith, e), tt))
+            (when-passed _ _ (eqb acmod 2) _ _ (inr (λ e. omega (arith, e), tt)) (
+              λ e. omega (arith, e),
+              λ lfeon. of-programmes _ _ p lt (eqb acmod 0) (λ few. inr (
+                λ e. omega (arith, e, lt),
+                inr (
+                  λ e. omega (arith, e, lt),
+                  bound _ Any _ _ (λ _ _. bound _ Any _ _ (λ _ _. few) additionalInfo (of-additional p lt)) (cond (eqb bsid 6) alternateInfo timeCodes) (either p lt (eqb bsid 6)),
+                ),
+              )),
+            ))),
       ),
     )),
   )
@@ -287,3 +287,35 @@ found c ok p lt present = go (in-frame p lt (input c) (start (length (input c)) 
     go : (programmes (taken .answer .header .acmod) ≤ p) ⊎ Found (Name.dialnorm + 8 * p) (listed c) → Found (Name.dialnorm + 8 * p) (listed c)
     go (inl few) = absurd (omega (arith, few, subst (λ (h : Header). p < programmes (h .acmod)) told present))
     go (inr f) = f
+
+-- ---- a frame has whole words
+
+abbrev pub Even : ℕ → Type 0
+Even bytes = (words : ℕ) × (bytes ≡ 2 * words)
+
+by-table : (fscod code : ℕ) → Even (frameBytes fscod code)
+unfolding frameBytes
+by-table zero code = (getD words48 (code / 2) 0, refl)
+by-table (suc zero) code = (getD words44 code 0, refl)
+by-table (suc (suc zero)) code = (getD words32 (code / 2) 0, refl)
+by-table (suc (suc (suc fscod))) code = (0, refl)
+
+sync-even : AtMost true (λ (x : ℕ × ℕ). Even (x .1)) 4 syncinfo
+unfolding syncinfo
+sync-even =
+    bounds.next 0 (search bounds.few) tt λ _. bounds.next 1 (search bounds.few) tt λ _. bounds.next 0 (search bounds.few) tt λ _. bounds.next 1 (search bounds.few) tt λ _.
+    bounds.next 1 (search bounds.few) tt λ fscod. bounds.next 1 (search bounds.few) tt λ code. bounds.next 0 (search bounds.few) tt λ _. bounds.next 0 (search bounds.few) tt λ _. a-done (by-table fscod code)
+
+frame-even : AtMost true (λ (a : Audio). Even (a .header .bytes)) (44 + mostRows) syncframe
+unfolding syncframe header
+frame-even =
+    bounds.both {P = λ (h : Header). Even (h .bytes)} {m = 44} {k = mostRows}
+    (bounds.both {P = λ (x : ℕ × ℕ). Even (x .1)} {m = 4} {k = 40} sync-even
+    (λ x even. bounds.loosen (bounds.wider {Q = λ (h : Header). h .bytes ≡ x .1} (λ h same. subst Even (sym same) even) (omega arith) (a-bsi (x .0) (x .1)))) (omega arith))
+    (λ h even. bounds.loosen (bounds.wider {Q = λ (a : Audio). a .header ≡ h} (λ a same. subst (λ (h : Header). Even (h .bytes)) (sym same) even) (omega arith) (a-audio h))) (omega arith)
+
+pub even-bytes : (c : Call) → Accepted c → Even (answerTo c .0 .summary .header .bytes)
+even-bytes c ok =
+    let taken = reaches c ok in
+    subst (λ (h : Header). Even (h .bytes)) (sym (ap (λ s. s .header) (promised c refl .summary taken)))
+    (reached-of frame-even (input c) (start (length (input c)) (roomFor c)) (taken .answer) (taken .accepted))

@@ -1,5 +1,5 @@
 -- The list of changes, one after the other; where nothing changed it is empty. Assumes nothing.
-use Prim.Native.Nat.{ℕ, suc, _+_, _≤_}
+use Prim.Native.Nat.{ℕ, suc, _+_, _*_, _≤_}
 use mathlib.Core.Bool.{Bool, true, false, cond}
 use mathlib.Core.List.{List, [], _∷_, _++_}
 use mathlib.Core.Path.{_≡_, refl, ap, sym, _∙_}
@@ -42,24 +42,32 @@ pub unchanged : (name words : ℕ) (s : List ℕ) (at n v : ℕ) → afterMend w
 unfolding changes
 unchanged name words s at n v e = ap (λ t. changesOf name (fieldsOf words s at n) (fieldsOf words t at n)) e ∙ none name (fieldsOf words s at n)
 
--- there are four fields
-one-change : (name old new : ℕ) → length (changed name old new) ≤ 3
+-- there are four fields, and three numbers to a change
+abbrev Counted : ℕ → List ℤ → Type 0
+Counted most l = (k : ℕ) × (k ≤ most) × (length l ≡ k * 3)
+
+one-change : (name old new : ℕ) → Counted 1 (changed name old new)
 unfolding changed
 one-change name old new = go (eqb old new)
   where
-    go : (b : Bool) → length (cond b [] (pos name ∷ pos old ∷ pos new ∷ [])) ≤ 3
-    go true = omega arith
-    go false = omega arith
+    go : (b : Bool) → Counted 1 (cond b [] (pos name ∷ pos old ∷ pos new ∷ []))
+    go true = (0, omega arith, refl)
+    go false = (1, omega arith, refl)
 
-four : (a b c d : List ℤ) → length a ≤ 3 → length b ≤ 3 → length c ≤ 3 → length d ≤ 3 → length (a ++ b ++ c ++ d) ≤ 12
-four a b c d ha hb hc hd = omega (arith, length-append a (b ++ c ++ d), length-append b (c ++ d), length-append c d, length-append (a ++ b ++ c) d, length-append (a ++ b) c, length-append a b)
+both : (m n : ℕ) (a b : List ℤ) → Counted m a → Counted n b → Counted (m + n) (a ++ b)
+both m n a b (j, jm, ja) (k, kn, kb) = (j + k, omega (arith, jm, kn), omega (arith, length-append a b, ja, kb))
 
-of-fields : (name : ℕ) (old new : Fields) → length (changesOf name old new) ≤ 12
+four : (a b c d : List ℤ) → Counted 1 a → Counted 1 b → Counted 1 c → Counted 1 d → Counted 4 (a ++ b ++ c ++ d)
+four a b c d ha hb hc hd = both 3 1 (a ++ b ++ c) d (both 2 1 (a ++ b) c (both 1 1 a b ha hb) hc) hd
+
+pub four-changes : (name : ℕ) (old new : Fields) → (k : ℕ) × (k ≤ 4) × (length (changesOf name old new) ≡ k * 3)
 unfolding changesOf
-of-fields name old new =
+four-changes name old new =
     four (changed Name.crc1 (old .crc1) (new .crc1)) (changed name (old .field) (new .field)) (changed crcrsv (old .crcrsv) (new .crcrsv)) (changed crc2 (old .crc2) (new .crc2))
     (one-change Name.crc1 (old .crc1) (new .crc1)) (one-change name (old .field) (new .field)) (one-change crcrsv (old .crcrsv) (new .crcrsv)) (one-change crc2 (old .crc2) (new .crc2))
 
 pub few-changes : (name words : ℕ) (s : List ℕ) (at n v : ℕ) → length (changes name words s at n v) ≤ 12
 unfolding changes
-few-changes name words s at n v = of-fields name (fieldsOf words s at n) (fieldsOf words (afterMend words s at n v) at n)
+few-changes name words s at n v =
+    let all = four-changes name (fieldsOf words s at n) (fieldsOf words (afterMend words s at n v) at n) in
+    omega (arith, all .1, all .2)

@@ -7,8 +7,7 @@ use mathlib.Core.Path.{_≡_}
 use lib.ListN.{length}
 use Rattle.bits.specs.Bits.{bitAt, value}
 use Rattle.bits.specs.Put.{put}
-use Rattle.crc.specs.Register.{leading}
-use Rattle.mend.specs.Mend.{fiveEighths, FirstIsZero, WholeIsZero, crc2Of, mended}
+use Rattle.mend.specs.Mend.{FirstIsZero, WholeIsZero, crc2Of, mended}
 
 -- a field between crc1 and crcrsv of a frame that is there
 pub record Field (words : ℕ) (s : List ℕ) (at n : ℕ) : Type 0 where

@@ -5,7 +5,7 @@
 
 use ferrysprig::level::correct_level;
 use ferrysprig::Parser;
-use std::ffi::OsString;
+use std::ffi::{OsStr, OsString};
 use std::fs::OpenOptions;
 use std::io::{self, Write};
 use std::path::Path;
@@ -39,18 +39,17 @@ fn main() -> ExitCode {
     }
 }
 
-fn mend(from: &OsString, to: &OsString, programme: usize, level: usize) -> Result<(), Trouble> {
-    let trouble = |what: &OsString| move |why: io::Error| (TROUBLE, what.clone(), why.to_string());
-    let mut stream = std::fs::read(from).map_err(trouble(from))?;
+fn mend(from: &OsStr, to: &OsStr, programme: usize, level: usize) -> Result<(), Trouble> {
+    let mut stream = std::fs::read(from).map_err(|why| trouble(from, why))?;
     if stream.is_empty() {
-        return Err((REFUSED, from.clone(), "the file is empty".into()));
+        return Err((REFUSED, from.to_owned(), "the file is empty".into()));
     }
     let (mut parser, mut place, mut text) = (Parser::new(), 0, String::new());
     while place < stream.len() {
         let length = stream.len();
         let refused = |why: String| {
             let message = format!("at byte {place} of {length}: {why}");
-            (REFUSED, from.clone(), message)
+            (REFUSED, from.to_owned(), message)
         };
         let changes = correct_level(&mut stream, place, programme, level)
             .map_err(|refusal| refused(refusal.to_string()))?;
@@ -71,11 +70,15 @@ fn mend(from: &OsString, to: &OsString, programme: usize, level: usize) -> Resul
         .write(true)
         .create_new(true)
         .open(to)
-        .map_err(trouble(to))?;
-    made.write_all(&stream).map_err(trouble(to))?;
+        .map_err(|why| trouble(to, why))?;
+    made.write_all(&stream).map_err(|why| trouble(to, why))?;
     // Not `print`, which panics where nobody reads on.
     io::stdout()
         .write_all(text.as_bytes())
         .and_then(|()| io::stdout().flush())
-        .map_err(|why| (TROUBLE, "standard output".into(), why.to_string()))
+        .map_err(|why| trouble(OsStr::new("standard output"), why))
+}
+
+fn trouble(what: &OsStr, why: io::Error) -> Trouble {
+    (TROUBLE, what.to_owned(), why.to_string())
 }

@@ -51,10 +51,11 @@ dialnormOf programme = Name.dialnorm + 8 * fromZero programme
 abbrev pub dialnormWidth : ℕ
 dialnormWidth = 5
 
--- the position that the first row of a name says; 0 where none has the name
+-- where the position stands among the numbers of a row
 abbrev pub positionColumn : ℕ
 positionColumn = 5
 
+-- the position that the first row of a name says; 0 where none has the name
 unfoldable pub positionIn : (count name : ℕ) → List ℤ → ℕ
 positionIn count name rows = let i = first count name rows in cond (ltb i count) (said (i * rowWidth + positionColumn) rows) 0
 
@@ -77,6 +78,7 @@ levelled c parsed programme level changes =
 abbrev pub untouched : Call → parse.Answer × List ℤ → (refusal : ℕ) (changes : List ℤ) → Left
 untouched c parsed refusal changes = (record { refusal = refusal; rows = parsed .0 .rows; changes = 0 }, (changes, (parsed .1, c .capture)))
 
+-- after a parse with this answer and this room
 abbrev pub leftBy : Call → parse.Answer × List ℤ → (programme level : ℕ) (changes : List ℤ) → Left
 leftBy c parsed programme level changes =
     let refusal = refusalFor (parsed .0) programme level in

@@ -19,6 +19,7 @@ static const char *const names[] = FERRYSPRIG_NAMES;
 static const char *const meanings[] = FERRYSPRIG_MEANINGS;
 
 static int said(const char *what, const char *why, int status) {
+    fflush(stdout); /* what was corrected before is said first */
     fprintf(stderr, "level: %s: %s\n", what, why);
     return status;
 }
@@ -76,9 +77,9 @@ int main(int argc, char **argv) {
         ferrysprig_correct(capture, length, place, programme, level, rows, room, changes, answer);
         int32_t refusal = answer[FERRYSPRIG_LEVEL_ANSWER_REFUSAL];
         if (refusal != 0) {
-            fflush(stdout); /* what was corrected before is said first */
-            fprintf(stderr, "level: %s: at byte %zu of %zu: refusal %d: %s\n", argv[1], place, length, (int)refusal, meanings[refusal]);
-            return REFUSED;
+            char where[200];
+            snprintf(where, sizeof where, "at byte %zu of %zu: refusal %d: %s", place, length, (int)refusal, meanings[refusal]);
+            return said(argv[1], where, REFUSED);
         }
         print(place, changes, answer[FERRYSPRIG_LEVEL_ANSWER_CHANGES]);
         ferrysprig_header(capture, length, place, rows, room, header); /* the header alone tells how long the frame is */

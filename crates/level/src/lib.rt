@@ -6,7 +6,6 @@ use syntax::ROW;
 use syntax::names::DIALNORM;
 ghost use mathlib.Core.Path.{_≡_};
 ghost use Prim.Native.Nat.{_<_, _≤_};
-ghost use Rattle.ac3.specs.Rooms.{natural};
 ghost use Rattle.level.specs.Level.{fromZero, isPresent, isLevel, endsInTime, refusalFor, dialnormOf, positionIn, correctTo};
 
 // Which number of a row is its position.
@@ -88,20 +87,13 @@ fn dialnorm_of(programme: usize) -> u8
     DIALNORM + 8 * from_zero(programme) as u8
 }
 
-// A number that is not negative, as it is.
-fn natural(z: i32) -> usize
-    ensures { λ r. ⌜ r ≡ natural z ⌝ }
-{
-    if z < 0 { 0 } else { z as usize }
-}
-
 // The position of the first row that has this name; 0 where none has it.
 fn position(rows: &[i32], count: usize, name: u8) -> usize
     ensures { λ r. ⌜ r ≡ positionIn count name (now (rows .entry)) ⌝ }
 {
     let i = rows::first(rows, count, name);
     if i < count {
-        natural(rows[i * ROW + POSITION])
+        rows::natural(rows[i * ROW + POSITION])
     } else {
         0
     }

@@ -3,12 +3,12 @@
    proved.
 
    The functions have no state: no heap, no globals, no files, no signals. Any number of threads may call them at once, each with its own
-   `rows`, `list`, `out` and `answer` (and `capture`, where it is written to). The archive needs memcpy, memmove and memset, and nothing
-   else.
+   `rows`, `list`, `out`, `changes` and `answer` (and `capture`, where it is written to). The archive needs memcpy, memmove and memset, and
+   nothing else.
 
-   An edit breaks the checksums: but for the sync word, crc1 guards the first five eighths of a frame and crc2 all of it. Whoever changes a
-   field makes crc2 wrong, and crc1 too where the field stands that early, and a decoder may then drop the frame. The functions neither
-   check nor mend them. */
+   An edit breaks the checksums: but for the sync word, crc1 guards the first five eighths of a frame and crc2 all of it. Whoever changes
+   a field makes crc2 wrong, and crc1 too where the field stands that early, and a decoder may then drop the frame. ferrysprig_correct
+   mends them with the level that it writes; the other functions neither check nor mend them. */
 #ifndef FERRYSPRIG_H
 #define FERRYSPRIG_H
 
@@ -122,8 +122,8 @@ enum {
 }
 
 /* What each refusal means: 1 to 23 of a frame, 24 of a header answer, 25 to 27 of an AHT section, 28 and 30 to 34 of a burst, 35 to 37 of a
-   salvage, 40 to 46 of a listing, 57 to 59 of a value to be set. (No others are given. The text of 6 is a frame's; ferrysprig_aht says what
-   it means of a section.) */
+   salvage, 40 to 46 of a listing, 50 to 52 of a level correction, 57 to 59 of a value to be set. (No others are given. The text of 6 is a
+   frame's; ferrysprig_aht says what it means of a section.) */
 #define FERRYSPRIG_MEANINGS { \
     /*  0 */ "accepted", \
     /*  1 */ "the input has fewer than 6 bytes", \
@@ -171,7 +171,11 @@ enum {
     /* 44 */ "bytes are left over after the listing", \
     /* 45 */ "the output is too short for the listing", \
     /* 46 */ "the row count is -1, or neither 0 nor 1 stands for audio or refused", \
-    /* 47 */ "", "", "", "", "", "", "", "", "", "", \
+    /* 47 */ "", "", "", \
+    /* 50 */ "the frame has no such programme", \
+    /* 51 */ "the level is not 1 to 31", \
+    /* 52 */ "the audio ends later than 18 bits before the frame's end", \
+    /* 53 */ "", "", "", "", \
     /* 57 */ "the width is not 1 to 16", \
     /* 58 */ "the field does not lie within the capture", \
     /* 59 */ "the value does not fit the width" \
@@ -238,6 +242,43 @@ bool ferrysprig_editable(size_t name);
    position + width is more than 8 capture_len (however large the numbers), 59 if the value is 2 to the width or more. That the row may be
    edited is not looked at, and no checksum is mended. */
 uint8_t ferrysprig_set(uint8_t *capture, size_t capture_len, size_t place, size_t position, size_t width, size_t value);
+
+/* Level correction: the dialogue level of a programme, written into the frame, with both checksums mended. */
+
+/* The numbers of an answer about a level correction. */
+enum {
+    FERRYSPRIG_LEVEL_ANSWER_REFUSAL = 0, /* 0: done; 1 to 23: the frame's own; else 50 to 52, see FERRYSPRIG_MEANINGS */
+    FERRYSPRIG_LEVEL_ANSWER_ROWS = 1,    /* how many rows were written by parsing, on a refusal too */
+    FERRYSPRIG_LEVEL_ANSWER_CHANGES = 2  /* how many changes were written to the front of `changes`; 0 on a refusal */
+};
+#define FERRYSPRIG_LEVEL_ANSWER_NUMBERS 3
+
+/* The numbers of a change. Change i begins at number FERRYSPRIG_CHANGE_NUMBERS * i of the list. */
+enum {
+    FERRYSPRIG_CHANGE_NAME = 0, /* 2 crc1, 12 dialnorm, 20 dialnorm2, as in FERRYSPRIG_NAMES, or one of the two below */
+    FERRYSPRIG_CHANGE_OLD = 1,
+    FERRYSPRIG_CHANGE_NEW = 2
+};
+#define FERRYSPRIG_CHANGE_NUMBERS 3
+
+/* The names of what changes and is no row. */
+enum {
+    FERRYSPRIG_NAME_CRCRSV = 112, /* the bit before crc2 */
+    FERRYSPRIG_NAME_CRC2 = 113    /* the frame's last 16 bits */
+};
+
+/* Changes that no correction exceeds: crc1, a level, crcrsv and crc2. */
+#define FERRYSPRIG_MOST_CHANGES 4
+
+/* Writes the level (1 to 31) of a programme, counted from 1, into the frame at byte `place` of `capture`, then crc1, then crc2; if crc2
+   would be 0x0B77, crcrsv is flipped first. Both checksums are right then, no other bit is changed, and the fields whose values are
+   others than before are listed, in frame order. The frame is parsed once, before the change, into the lent `rows`, with the refusals of
+   ferrysprig_parse; then 50 is given if there is no such programme (2 is there only with acmod 0), 51 if the level is not 1 to 31, 52 if
+   the audio ends later than 18 bits before the frame's end, in this order. On a refusal no byte is changed. Any input is answered;
+   `capture`, `rows`, `changes` and `answer` overlap nothing. Numbers of `changes` past those listed are not touched. */
+void ferrysprig_correct(uint8_t *capture, size_t capture_len, size_t place, size_t programme, size_t level, int32_t *rows, size_t rows_len,
+                        int32_t changes[FERRYSPRIG_MOST_CHANGES * FERRYSPRIG_CHANGE_NUMBERS],
+                        int32_t answer[FERRYSPRIG_LEVEL_ANSWER_NUMBERS]);
 
 /* AHT sections of E-AC-3: where one ends. Under the adaptive hybrid transform the gain words, vector indices and mantissas of a channel
    stand together for all six blocks, bin by bin; docs/FORMAT.md has a section word by word. */

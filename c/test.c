@@ -256,6 +256,78 @@ static void try_edits(void) {
               && !ferrysprig_editable(SIZE_MAX));
 }
 
+/* A frame of 128 bytes, acmod 1, dialnorm 0 at bit 52, with all checksums 0, between marks: one byte before it and two behind it. */
+enum { BEHIND = 1 + FERRYSPRIG_LEAST_BYTES, SURROUNDED = BEHIND + 2 };
+static uint8_t surrounded[SURROUNDED];
+static int32_t level_changes[FERRYSPRIG_MOST_CHANGES * FERRYSPRIG_CHANGE_NUMBERS + 1];
+static int32_t level_answer[FERRYSPRIG_LEVEL_ANSWER_NUMBERS + 1];
+
+static void surround(void) {
+    static const uint8_t front[] = {0x0B, 0x77, 0x00, 0x00, 0x00, 0x40, 0x20, 0x00, 0x0B, 0x00, 0x1F, 0x3E, 0x7C, 0xF9, 0xF3, 0xE2, 0x00,
+        0x20};
+    memset(surrounded, 0, sizeof surrounded);
+    memcpy(&surrounded[1], front, sizeof front);
+    surrounded[0] = surrounded[BEHIND] = surrounded[BEHIND + 1] = 0xA5;
+}
+
+/* Whether a correction of its first `length` bytes, marks too, is answered so, with these changes and nothing else touched. */
+static bool corrects(size_t length, size_t place, size_t programme, size_t level, size_t numbers, int32_t refusal, int32_t count,
+                     int32_t listed, const int32_t *expected) {
+    static uint8_t before[SURROUNDED];
+    memcpy(before, surrounded, sizeof before);
+    for (size_t i = 0; i < sizeof level_changes / sizeof *level_changes; i++)
+        level_changes[i] = UNTOUCHED;
+    for (size_t i = 0; i < sizeof level_answer / sizeof *level_answer; i++)
+        level_answer[i] = UNTOUCHED;
+    ferrysprig_correct(surrounded, length, place, programme, level, room, numbers, level_changes, level_answer);
+    bool same = listed == 0 || memcmp(level_changes, expected, (size_t)listed * FERRYSPRIG_CHANGE_NUMBERS * sizeof *expected) == 0;
+    for (size_t i = (size_t)listed * FERRYSPRIG_CHANGE_NUMBERS; i < sizeof level_changes / sizeof *level_changes; i++)
+        same = same && level_changes[i] == UNTOUCHED;
+    /* The frame's bytes 2 and 3 have crc1, 6 and 7 dialnorm, the last three crcrsv and crc2. */
+    for (size_t i = 0; i < sizeof before; i++) {
+        bool may = listed > 0 && ((i >= 3 && i < 5) || (i >= 7 && i < 9) || (i >= BEHIND - 3 && i < BEHIND));
+        same = same && (may || surrounded[i] == before[i]);
+    }
+    return same && level_answer[FERRYSPRIG_LEVEL_ANSWER_REFUSAL] == refusal && level_answer[FERRYSPRIG_LEVEL_ANSWER_ROWS] == count
+        && level_answer[FERRYSPRIG_LEVEL_ANSWER_CHANGES] == listed && level_answer[FERRYSPRIG_LEVEL_ANSWER_NUMBERS] == UNTOUCHED;
+}
+
+/* The frame's 16 bits from a byte on. */
+static int32_t word(size_t byte) {
+    return surrounded[1 + byte] << 8 | surrounded[2 + byte];
+}
+
+static void try_levels(void) {
+    enum { ROWS = 95 * WIDTH, CRC1 = 2, DIALNORM = 12 };
+    const int32_t to_24[] = {CRC1, 0, 0xF7CA, DIALNORM, 0, 24};
+    const int32_t flipped[] = {CRC1, 0, 0xF7CA, DIALNORM, 0, 24, FERRYSPRIG_NAME_CRCRSV, 0, 1, FERRYSPRIG_NAME_CRC2, 0, 0x8B72};
+    const int32_t crc2[] = {FERRYSPRIG_NAME_CRC2, 0x1234, 0};
+    surround();
+    holds("a level of nothing at all", (ferrysprig_correct(NULL, 0, 0, 1, 24, NULL, 0, level_changes, level_answer), level_answer[0] == 1)
+              && level_answer[1] == 0 && level_answer[2] == 0);
+    holds("a place without a frame", corrects(SURROUNDED, 0, 1, 24, ROWS, 2, 1, 0, NULL));
+    holds("a frame that is cut has no level", corrects(BEHIND - 1, 1, 1, 24, ROWS, 4, 4, 0, NULL));
+    holds("a number of room too few for a level", corrects(SURROUNDED, 1, 1, 24, ROWS - 1, 7, 94, 0, NULL));
+    holds("programmes that are not there", corrects(SURROUNDED, 1, 0, 24, ROWS, 50, 95, 0, NULL)
+              && corrects(SURROUNDED, 1, 2, 0, ROWS, 50, 95, 0, NULL) && corrects(SURROUNDED, 1, SIZE_MAX, 24, ROWS, 50, 95, 0, NULL));
+    holds("levels that are none", corrects(SURROUNDED, 1, 1, 0, ROWS, 51, 95, 0, NULL)
+              && corrects(SURROUNDED, 1, 1, 32, ROWS, 51, 95, 0, NULL)
+              && corrects(SURROUNDED, 1, 1, ((size_t)1 << 32) + 24, ROWS, 51, 95, 0, NULL));
+    holds("a level is written", corrects(SURROUNDED, 1, 1, 24, ROWS, 0, 95, 2, to_24) && word(2) == 0xF7CA
+              && word(6) == 0x2C00 && word(126) == 0);
+    holds("a second time nothing changes", corrects(SURROUNDED, 1, 1, 24, ROWS, 0, 95, 0, NULL));
+    surrounded[BEHIND - 2] = 0x12;
+    surrounded[BEHIND - 1] = 0x34;
+    holds("a wrong crc2 alone", corrects(BEHIND, 1, 1, 24, ROWS, 0, 95, 1, crc2) && word(126) == 0);
+    surround();
+    surrounded[1 + 123] = 0x01; /* this word before auxdatae makes crc2 the sync word */
+    surrounded[1 + 124] = 0x3C;
+    surrounded[1 + 125] = 0x90;
+    holds("crcrsv is flipped", corrects(SURROUNDED, 1, 1, 24, ROWS, 0, 95, 4, flipped) && surrounded[1 + 125] == 0x91
+              && word(126) == 0x8B72);
+    holds("and stays so", corrects(SURROUNDED, 1, 1, 24, ROWS, 0, 95, 0, NULL));
+}
+
 /* Whether a section in three bytes, of which all but the first are 0, is answered so, with nothing written past the answer. */
 static bool walks(uint8_t front, size_t at, size_t end, const char *hebap, size_t first, size_t past, size_t refusal, size_t last,
                   size_t tags) {
@@ -533,14 +605,14 @@ static void try_texts(void) {
               && strcmp(meanings[24], "the header answer does not fit the input") == 0 && strcmp(meanings[33], "a byte after the frame is not 0") == 0
               && strcmp(meanings[26], "a hebap is above 19") == 0 && strcmp(meanings[36], "no entry of the list is left") == 0
               && strcmp(meanings[40], "a line is malformed") == 0 && strcmp(meanings[45], "the output is too short for the listing") == 0
-              && strcmp(meanings[57], "the width is not 1 to 16") == 0);
+              && strcmp(meanings[51], "the level is not 1 to 31") == 0 && strcmp(meanings[57], "the width is not 1 to 16") == 0);
     static const char *const rules[] = FERRYSPRIG_RULES;
     holds("rules by their numbers", sizeof rules / sizeof *rules == 8 && strcmp(rules[0], "within the profile") == 0
               && strcmp(rules[FERRYSPRIG_RULE_WORDS], "the frame has fewer than 384 words") == 0
               && strcmp(rules[FERRYSPRIG_RULE_DIALNORM], "dialnorm is 0") == 0);
     bool empty = meanings[29][0] == '\0' && meanings[38][0] == '\0' && meanings[39][0] == '\0';
     for (int i = 47; i < 57; i++)
-        empty = empty && meanings[i][0] == '\0';
+        empty = empty && (meanings[i][0] == '\0') == (i < 50 || i > 52);
     holds("no meanings where there is no refusal", empty);
 }
 
@@ -550,9 +622,9 @@ static uint8_t stream[65536];
 static size_t stream_len;
 static ucontext_t here, there;
 
-/* What is called: the header of each frame of a stream and then its blocks; the profile and the parse of each; each frame written as a burst
-   and read; the stream salvaged. (The deepest comes first: what binding takes is taken once.) And its bytes are walked over as if they were
-   AHT sections, and a listing is packed and unpacked. */
+/* What is called: the header of each frame of a stream and then its blocks; another level, the profile and the parse of each; each frame
+   written as a burst and read; the stream salvaged. (The deepest comes first: what binding takes is taken once.) And its bytes are
+   walked over as if they were AHT sections, and a listing is packed and unpacked. */
 static enum { APART, PARSES, BURSTS, SALVAGE, WAYS } way;
 
 static void call(void) {
@@ -586,6 +658,7 @@ static void call(void) {
                 ferrysprig_burst_read(out, FERRYSPRIG_BURST_BYTES, room, numbers, back, sizeof back, answer);
             place += (size_t)answer[FERRYSPRIG_BURST_ANSWER_WRITTEN];
         } else {
+            ferrysprig_correct(stream, stream_len, place, 1, 1 + place % 31, room, numbers, level_changes, level_answer);
             ferrysprig_profile(stream, stream_len, place, room, numbers, profile_answer);
             ferrysprig_parse(stream, stream_len, place, room, numbers, answer);
             place += (size_t)answer[FERRYSPRIG_ANSWER_BYTES];
@@ -632,6 +705,7 @@ int main(int argc, char **argv) {
     try_apart();
     try_range_eq();
     try_edits();
+    try_levels();
     try_aht();
     try_bursts();
     try_salvage();

@@ -102,3 +102,12 @@ pub type ProfileAnswer = [i32; 4];
 
 /// An answer about a packed listing, either way: refusal, bytes written.
 pub type PackAnswer = [usize; 2];
+
+/// An answer about a level correction: refusal, rows of the parse, changes.
+pub type LevelAnswer = [i32; 3];
+
+/// The numbers of a change: name, old value, new value.
+pub const CHANGE: usize = 3;
+
+/// The list of changes: at most crc1, one level, crcrsv and crc2.
+pub type Changes = [i32; 4 * CHANGE];

@@ -56,6 +56,7 @@ pub mod frames;
 pub mod goals;
 pub mod hex;
 pub mod layout;
+pub mod level;
 pub mod list;
 pub mod listing;
 pub mod moving;

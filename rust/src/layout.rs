@@ -182,3 +182,38 @@ pub mod pack_answer_at {
 }
 
 pub type PackAnswer = [usize; PACK_ANSWER_NUMBERS];
+
+/// The numbers of an answer about a level correction.
+pub const LEVEL_ANSWER_NUMBERS: usize = 3;
+
+/// Which number of an answer about a level correction is which. (Number 1 is the count of rows.)
+pub mod level_answer_at {
+    /// 0 if the level was written.
+    pub const REFUSAL: usize = 0;
+    /// How many changes were listed.
+    pub const CHANGES: usize = 2;
+}
+
+pub type LevelAnswer = [i32; LEVEL_ANSWER_NUMBERS];
+
+/// The numbers of a change.
+pub const CHANGE_NUMBERS: usize = 3;
+
+/// Which number of a change is which.
+pub mod change_at {
+    /// A name's number, as in a row; or one of the next two.
+    pub const NAME: usize = 0;
+    pub const OLD: usize = 1;
+    pub const NEW: usize = 2;
+}
+
+/// The names of what changes and is no row.
+pub mod tail_name {
+    pub const CRCRSV: i32 = 112;
+    pub const CRC2: i32 = 113;
+}
+
+/// Changes that no correction exceeds.
+pub const MOST_CHANGES: usize = 4;
+
+pub type ChangeList = [i32; MOST_CHANGES * CHANGE_NUMBERS];

@@ -18,8 +18,8 @@
 //! # An edit breaks the checksums
 //!
 //! But for the sync word, crc1 guards the first five eighths of a frame and crc2 all of it. Whoever changes a field makes crc2 wrong, and
-//! crc1 too where the field stands that early, and a decoder may then drop the frame. This crate neither checks nor mends them: compute
-//! them anew after an edit, as the original's `fix_crcs` does.
+//! crc1 too where the field stands that early, and a decoder may then drop the frame. [`level::correct_level`] mends them with the level
+//! that it writes. Nothing else here does, or checks them: compute them anew after an edit, as the original's `fix_crcs` does.
 //!
 //! # Many frames
 //!
@@ -62,6 +62,10 @@
 //! # Edits
 //!
 //! [`Field::editable`] says whether a field's value may be changed without changing any other field, [`edit::set`] writes another value.
+//!
+//! # Levels
+//!
+//! [`level`] writes another dialogue level into a frame, mends both checksums, and tells what changed.
 //!
 //! # Bursts
 //!
@@ -143,6 +147,7 @@ mod field;
 mod frame;
 mod header;
 mod layout;
+pub mod level;
 pub mod listing;
 mod names;
 mod parser;

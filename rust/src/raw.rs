@@ -1,10 +1,11 @@
 //! The archive's functions (c/ferrysprig.h) as safe ones. All unsafe code of the crate stands here; compare/ takes this file, too.
 
 use crate::layout::{
-    answer_at, burst_answer_at, header_answer_at, pack_answer_at, profile_answer_at,
-    salvage_answer_at, AhtAnswer, Answer, BurstAnswer, HeaderAnswer, PackAnswer, ProfileAnswer,
-    SalvageAnswer, AHT_ANSWER_NUMBERS, ANSWER_NUMBERS, BURST_ANSWER_NUMBERS, ENTRY_NUMBERS,
-    HEADER_ANSWER_NUMBERS, PACK_ANSWER_NUMBERS, PROFILE_ANSWER_NUMBERS, ROW_NUMBERS,
+    answer_at, burst_answer_at, header_answer_at, level_answer_at, pack_answer_at,
+    profile_answer_at, salvage_answer_at, AhtAnswer, Answer, BurstAnswer, ChangeList, HeaderAnswer,
+    LevelAnswer, PackAnswer, ProfileAnswer, SalvageAnswer, AHT_ANSWER_NUMBERS, ANSWER_NUMBERS,
+    BURST_ANSWER_NUMBERS, CHANGE_NUMBERS, ENTRY_NUMBERS, HEADER_ANSWER_NUMBERS,
+    LEVEL_ANSWER_NUMBERS, PACK_ANSWER_NUMBERS, PROFILE_ANSWER_NUMBERS, ROW_NUMBERS,
     SALVAGE_ANSWER_NUMBERS,
 };
 
@@ -114,6 +115,17 @@ extern "C" {
         out: *mut u8,
         out_len: usize,
         answer: *mut PackAnswer,
+    );
+    fn ferrysprig_correct(
+        capture: *mut u8,
+        capture_len: usize,
+        place: usize,
+        programme: usize,
+        level: usize,
+        rows: *mut i32,
+        rows_len: usize,
+        changes: *mut ChangeList,
+        answer: *mut LevelAnswer,
     );
 }
 
@@ -389,4 +401,39 @@ pub fn unpack<'a>(packed: &[u8], out: &'a mut [u8]) -> (PackAnswer, &'a [u8]) {
 fn packed_written<'a>(answer: &PackAnswer, out: &'a [u8]) -> &'a [u8] {
     out.get(..answer[pack_answer_at::WRITTEN])
         .expect("libferrysprig.a wrote more bytes than there is room for")
+}
+
+/// Writes the level of a programme, counted from 1, into the frame at byte `place` of `capture`, and mends its checksums; the answer, and
+/// the numbers of the changes that it says were listed.
+pub fn correct<'a>(
+    capture: &mut [u8],
+    place: usize,
+    programme: usize,
+    level: usize,
+    rows: &mut [i32],
+    changes: &'a mut ChangeList,
+) -> (LevelAnswer, &'a [i32]) {
+    let mut answer = [0; LEVEL_ANSWER_NUMBERS];
+    // SAFETY: each pointer and length is that of a slice or an array that lives through the call; `capture`, `rows`, `changes` and `answer`
+    // are borrowed mutably, so nothing else refers to them. The function asks nothing more of its caller, writes only there, and keeps no
+    // pointer.
+    unsafe {
+        ferrysprig_correct(
+            capture.as_mut_ptr(),
+            capture.len(),
+            place,
+            programme,
+            level,
+            rows.as_mut_ptr(),
+            rows.len(),
+            changes,
+            &mut answer,
+        );
+    }
+    // (That the count fits is proved, as in `parse`.)
+    let listed = usize::try_from(answer[level_answer_at::CHANGES])
+        .ok()
+        .and_then(|count| changes.get(..count.checked_mul(CHANGE_NUMBERS)?))
+        .expect("libferrysprig.a listed more changes than there is room for");
+    (answer, listed)
 }

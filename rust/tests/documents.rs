@@ -7,13 +7,14 @@ mod layout;
 
 use ferrysprig::burst::{self, Refusal};
 use ferrysprig::profile::{Profile, Rule};
-use ferrysprig::{aht, blocks_into, edit, header, listing, parse, salvage, Field, Role};
+use ferrysprig::{aht, blocks_into, edit, header, level, listing, parse, salvage, Field, Role};
 use ferrysprig::{LEAST_BYTES, MOST_BYTES, MOST_HEADER_ROWS, MOST_ROWS, ROW_NUMBERS};
 use ferrysprig::{NAMES, REFUSALS};
 use files::text;
 use layout::SALVAGE_ANSWER_NUMBERS;
 use layout::{aht_answer_at, answer_at, burst_answer_at, entry_at, header_answer_at};
-use layout::{kind, pack_answer_at, profile_answer_at, row_at, salvage_answer_at};
+use layout::{change_at, kind, level_answer_at, pack_answer_at, profile_answer_at, row_at};
+use layout::{salvage_answer_at, tail_name, CHANGE_NUMBERS, LEVEL_ANSWER_NUMBERS, MOST_CHANGES};
 use layout::{AHT_ANSWER_NUMBERS, ANSWER_NUMBERS, BURST_ANSWER_NUMBERS, ENTRY_NUMBERS};
 use layout::{HEADER_ANSWER_NUMBERS, PACK_ANSWER_NUMBERS, PROFILE_ANSWER_NUMBERS};
 
@@ -101,6 +102,13 @@ fn texts_are_those_of_the_header() {
         say(refusal.number(), refusal.meaning());
     }
     for refusal in [
+        level::Refusal::NoSuchProgramme,
+        level::Refusal::WrongLevel,
+        level::Refusal::NoTail,
+    ] {
+        say(refusal.number(), refusal.meaning());
+    }
+    for refusal in [
         edit::Refusal::WrongWidth,
         edit::Refusal::PastTheEnd,
         edit::Refusal::TooLarge,
@@ -135,6 +143,10 @@ fn numbers_are_those_of_the_header() {
     assert_eq!(PROFILE_ANSWER_NUMBERS, of_profile);
     let of_pack = number("FERRYSPRIG_PACK_ANSWER_NUMBERS");
     assert_eq!(PACK_ANSWER_NUMBERS, of_pack);
+    let of_level = number("FERRYSPRIG_LEVEL_ANSWER_NUMBERS");
+    assert_eq!(LEVEL_ANSWER_NUMBERS, of_level);
+    assert_eq!(CHANGE_NUMBERS, number("FERRYSPRIG_CHANGE_NUMBERS"));
+    assert_eq!(MOST_CHANGES, number("FERRYSPRIG_MOST_CHANGES"));
     assert_eq!(MOST_ROWS, number("FERRYSPRIG_MOST_ROWS"));
     assert_eq!(MOST_HEADER_ROWS, number("FERRYSPRIG_MOST_HEADER_ROWS"));
     assert_eq!(MOST_BYTES, number("FERRYSPRIG_MOST_BYTES"));
@@ -245,6 +257,18 @@ fn places_are_those_of_the_header() {
         ("REFUSAL", pack_answer_at::REFUSAL),
         ("WRITTEN", pack_answer_at::WRITTEN),
     ];
+    let of_level = [
+        ("REFUSAL", level_answer_at::REFUSAL),
+        ("ROWS", answer_at::ROWS),
+        ("CHANGES", level_answer_at::CHANGES),
+    ];
+    let change = [
+        ("NAME", change_at::NAME),
+        ("OLD", change_at::OLD),
+        ("NEW", change_at::NEW),
+    ];
+    let tail = [("CRCRSV", tail_name::CRCRSV), ("CRC2", tail_name::CRC2)]
+        .map(|(name, number)| (name, number as usize));
     let rules = [
         ("FSCOD", Rule::Fscod),
         ("ACMOD", Rule::Acmod),
@@ -270,6 +294,9 @@ fn places_are_those_of_the_header() {
     assert_eq!(places("FERRYSPRIG_PROFILE_ANSWER_"), own(&profile));
     assert_eq!(places("FERRYSPRIG_RULE_"), own(&rules));
     assert_eq!(places("FERRYSPRIG_PACK_ANSWER_"), own(&pack));
+    assert_eq!(places("FERRYSPRIG_LEVEL_ANSWER_"), own(&of_level));
+    assert_eq!(places("FERRYSPRIG_CHANGE_"), own(&change));
+    assert_eq!(places("FERRYSPRIG_NAME_"), own(&tail));
 }
 
 #[test]

@@ -23,14 +23,16 @@ ghost use Rattle.ferrysprig.specs.Apart.{headerTold, blocksHeld};
 ghost use Rattle.salvage.specs.Lent.{salvaged};
 ghost use Rattle.aht.specs.Aht.{ahtOf};
 ghost use Rattle.ferrysprig.specs.Aht.{ahtNumbers};
+ghost use Rattle.level.specs.Level.{correctTo};
 ghost use Rattle.profile.specs.Answers.{numbersOf, profileTo};
 ghost use Rattle.ferrysprig.specs.Bursts.{burstInOrder, burstNumbers, burstTold};
+ghost use Rattle.ferrysprig.specs.Levels.{levelNumbers, levelTold};
 ghost use Rattle.ferrysprig.specs.Numbers.{flag, inOrder, answerNumbers, told};
 ghost use Rattle.ferrysprig.specs.Profiles.{profileInOrder, profileNumbers, profileTold};
 ghost use Rattle.ferrysprig.specs.Promise.{PromisedNumbers};
 ghost use Rattle.ferrysprig.specs.Salvages.{salvageNumbers, salvageTold};
 
-// The numbers of an answer, and of those about a burst, a salvage and the profile. The block of what did not fit stands after those that are
+// The numbers of an answer, and of those about a burst, a salvage, the profile and a level. The block of what did not fit stands after those that are
 // never negative.
 pub const ANSWER: usize = BLOCK + 1;
 
@@ -41,6 +43,8 @@ pub const BURST_ANSWER: usize = 3;
 pub const SALVAGE_ANSWER: usize = 3;
 
 pub const PROFILE_ANSWER: usize = 4;
+
+pub const LEVEL_ANSWER: usize = 3;
 
 fn flag(b: bool) -> u16
     ensures { λ r. ⌜ r ≡ flag b ⌝ }
@@ -295,4 +299,29 @@ pub extern "C" fn ferrysprig_profile(
     ensures { λ _. ⌜ (now (answer .exit), now (rows .exit)) ≡ profileTold (profileTo (now (capture .entry)) place (now (rows .entry))) ⌝ }
 {
     *answer = profile_numbers(profile::profile(capture, place, rows));
+}
+
+// The numbers of an answer about a level. None is large: no frame has more than 4,067 rows.
+fn level_numbers(a: level::Answer) -> [i32; LEVEL_ANSWER]
+    requires { ⌜ (a .rows ≤ mostRows) × (a .changes ≤ 4) ⌝ }
+    ensures { λ r. ⌜ r ≡ levelNumbers a ⌝ }
+{
+    [a.refusal as i32, a.rows as i32, a.changes as i32]
+}
+
+// Corrects the level of a programme, counted from 1, in the frame at a place of a capture, lists what changed, three numbers to a change
+// (name, old value, new value), and writes the answer's numbers. On a refusal capture and changes are untouched.
+#[no_mangle]
+pub extern "C" fn ferrysprig_correct(
+    capture: &mut [u8],
+    place: usize,
+    programme: usize,
+    level: usize,
+    rows: &mut [i32],
+    changes: &mut [i32; 12],
+    answer: &mut [i32; LEVEL_ANSWER],
+)
+    ensures { λ _. ⌜ (now (answer .exit), (now (changes .exit), (now (rows .exit), now (capture .exit)))) ≡ levelTold (correctTo (now (capture .entry)) place programme level (now (rows .entry)) (now (changes .entry))) ⌝ }
+{
+    *answer = level_numbers(level::correct(capture, place, programme, level, rows, changes));
 }

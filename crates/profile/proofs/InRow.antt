@@ -7,9 +7,10 @@ use lib.IntN.{ℤ, pos}
 use lib.ListN.{getD, drop}
 use Rattle.header.specs.declared.Header.{Header}
 use Rattle.syntax.specs.Numbers.{rowWidth}
+use Rattle.ac3.specs.Rooms.{natural}
 use Rattle.rows.specs.Look.{valueColumn, named}
 use Rattle.rows.proofs.Look.{in-row, row-named, row-other}
-use Rattle.profile.specs.Rules.{Rule, natural, brokenIn}
+use Rattle.profile.specs.Rules.{Rule, brokenIn}
 
 module _ (h : Header) (rule : Rule) (i : ℕ) (rows : List ℤ) where
   abbrev row : List ℤ

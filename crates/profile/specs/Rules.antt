@@ -3,11 +3,12 @@ use mathlib.Core.Bool.{Bool, false, _&&_, _||_, not, cond}
 use mathlib.Core.List.{List, [], _∷_}
 use Prim.Native.Nat.{ℕ, suc, _+_, _*_}
 use lib.Dec.{eqb, ltb}
-use lib.IntN.{ℤ, pos, negsuc}
+use lib.IntN.{ℤ, pos}
 use lib.ListN.{length, getD}
 use Rattle.syntax.specs.Names as Name
 use Rattle.syntax.specs.Run.{Row}
 use Rattle.header.specs.declared.Header.{Header}
+use Rattle.ac3.specs.Rooms.{natural}
 use Rattle.rows.specs.Look.{valueColumn, named, firstWhere}
 use Rattle.rows.specs.Found.{indexWhere}
 use Rattle.profile.specs.declared.Verdict.{Verdict}
@@ -58,10 +59,6 @@ abbrev pub judged : Header → List Row → Verdict
 judged h rows = judgedBy (foundAt h rows) (length rows) 1 rules
 
 -- ---- the same of numbers as a caller holds them
-
-abbrev pub natural : ℤ → ℕ
-natural (pos n) = n
-natural (negsuc n) = 0
 
 abbrev pub brokenIn : Header → Rule → List ℤ → Bool
 brokenIn h rule row = named (rule .field) row && rule .breaks h (natural (getD row valueColumn (pos 0)))

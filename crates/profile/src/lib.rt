@@ -15,7 +15,7 @@ ghost use Prim.Native.Nat.{_+_, _*_, _<_, _≤_};
 ghost use lib.ListN.{length, drop};
 ghost use Rattle.syntax.specs.Numbers.{rowWidth};
 ghost use Rattle.rows.specs.Look.{firstWhere};
-ghost use Rattle.profile.specs.Rules.{rule, natural, brokenIn, judgedIn};
+ghost use Rattle.profile.specs.Rules.{rule, brokenIn, judgedIn};
 ghost use Rattle.profile.specs.Answers.{numbersOf, profileTo};
 
 // Which number of a row is its value.
@@ -98,13 +98,6 @@ fn breaks(number: u8, header: Header, value: usize) -> bool
     }
 }
 
-// A number that is not negative, as it is.
-fn natural(z: i32) -> usize
-    ensures { λ r. ⌜ r ≡ natural z ⌝ }
-{
-    if z < 0 { 0 } else { z as usize }
-}
-
 // Whether row i breaks a rule.
 fn broken(rows: &[i32], i: usize, header: Header, number: u8) -> bool
     requires { ⌜ (number < 7) × (i * rowWidth + rowWidth ≤ length (now rows)) ⌝ }
@@ -113,7 +106,7 @@ fn broken(rows: &[i32], i: usize, header: Header, number: u8) -> bool
     if rows[i * ROW] != field(number) as i32 {
         return false;
     }
-    breaks(number, header, natural(rows[i * ROW + VALUE]))
+    breaks(number, header, rows::natural(rows[i * ROW + VALUE]))
 }
 
 // The first of the first `count` rows that does; `count` where none does.

@@ -2,6 +2,7 @@
 // crates above.)
 use syntax::ROW;
 ghost use mathlib.Core.Path.{_≡_};
+ghost use Rattle.ac3.specs.Rooms.{natural};
 ghost use Rattle.rows.specs.Look.{first, valueIn};
 
 // Which number of a row is its value. (The name comes first.)
@@ -29,4 +30,11 @@ pub fn value(rows: &[i32], count: usize, name: u8) -> i32
 {
     let i = first(rows, count, name);
     if i < count { rows[i * ROW + VALUE] } else { 0 }
+}
+
+// A number of a row that is not negative, as a count; 0 for one that is.
+pub fn natural(z: i32) -> usize
+    ensures { λ r. ⌜ r ≡ natural z ⌝ }
+{
+    if z < 0 { 0 } else { z as usize }
 }

@@ -8,8 +8,9 @@ use lib.ListN.{getD}
 use mir.Facts.{toZ-ofZ}
 use mir.Syntax.{w32}
 use Rattle.syntax.specs.Numbers.{rowWidth}
+use Rattle.ac3.specs.Rooms.{natural}
 use Rattle.rows.specs.Look.{valueColumn}
-use Rattle.profile.specs.Rules.{rule, natural}
+use Rattle.profile.specs.Rules.{rule}
 use Rattle.profile.proofs.InRow.{other-name, by-value}
 use Rattle.rows.proofs.Look.{is-number, its-bits}
 use Rattle.profile.proofs.broken.Statement.{statement}

@@ -1,7 +1,6 @@
--- `profile::natural` meets its contract, by the sign of the number. Assumes nothing.
+-- `rows::natural` meets its contract, by the sign of the number. Assumes nothing.
 use mathlib.Core.Path.{_≡_, refl, subst}
 use mathlib.Core.Bool.{true, false}
-use Prim.Native.Nat.{ℕ}
 use native.Mathlib.Nat.{not-suc-le-zero}
 use borrow.Author.Tests.{ltb-true}
 use lib.Dec.{T}
@@ -10,9 +9,9 @@ use lib.Signed.{ltZ}
 use mir.Syntax.{w32}
 use mir.ValLaws.{toZ-ofZ}
 use Rattle.signed.proofs.Sign.{index-fits}
-use Rattle.profile.specs.Rules.{natural}
-use Rattle.profile.proofs.natural.Statement.{statement}
-use Rattle.profile.proofs.natural.Tie as tie
+use Rattle.ac3.specs.Rooms.{natural}
+use Rattle.rows.proofs.natural.Statement.{statement}
+use Rattle.rows.proofs.natural.Tie as tie
 
 negative : (z : ℤ) → ltZ z (pos 0) ≡ true → 0 ≡ natural z
 negative (pos n) e = absurd (not-suc-le-zero (ltb-true n 0 e))

@@ -8,7 +8,7 @@ use native.Mathlib.Numerals.{add-one}
 use native.Mathlib.Omega.{arith}
 use lib.Dec.{T, eqb}
 use lib.IntN.{ℤ}
-use lib.ListN.{length, take, drop, length-drop, take-append-drop}
+use lib.ListN.{length, take, drop, replicate, length-drop, take-append-drop}
 use lib.Seq.{sets, sets-eq, length-sets, length-take-le, take-at, drop-at, take-append-le, drop-append-le}
 use borrow.Author.Tests.{eqb-true, eqb-false}
 use Rattle.tables.specs.Tables.{nfchans}
@@ -28,7 +28,7 @@ use Rattle.mantissas.specs.BySlot.{slotBits, Unused}
 use Rattle.mantissas.specs.Mantissas.{bySlot, mantissas}
 use Rattle.mantissas.proofs.BySlot.{bits-by-slot}
 use Rattle.ac3.specs.AudioBlock.{Carry, audioBlock}
-use Rattle.ac3.specs.Frame.{Audio, audio, syncframe, unread, summaryOf}
+use Rattle.ac3.specs.Frame.{Audio, audio, syncframe, unread, slotCounts, summaryOf}
 use Rattle.ac3.specs.Marked.{kindFits, Marked, m-done, m-refuse, m-field, m-free, m-span, m-walk, m-frame, m-here}
 use Rattle.ac3.specs.Promise.{Call, input, listed, answerTo, Accepted}
 use Rattle.ac3.specs.Rooms.{natural, rowCount}
@@ -201,6 +201,7 @@ module _ (h : Header) where
     pub earlier : (j : ℕ) → j < i → slotsOf j (last .tally .bits) ≡ slotsOf j (before .tally .bits)
     pub unused : (j : ℕ) → i ≤ j → j < i + n → Unused (nfchans (h .acmod)) (h .lfeon) (not (eqb (last .tally .coupled) 0)) (slotsOf j (last .tally .bits))
     pub more : before .tally .coupled ≤ last .tally .coupled
+    pub long : length (last .tally .bits) ≡ 42
 
   one-more : (i n : ℕ) (before next last : Carry) (ws later : List (ℕ × ℕ)) → i < 6 → length (before .tally .bits) ≡ 42
       → OfBlock h i before next ws → OfBlocks (i + 1) n next last later → OfBlocks i (suc n) before last (ws ++ later)
@@ -210,6 +211,7 @@ module _ (h : Header) where
     earlier = λ j l. bs .earlier j (omega arith) ∙ ap (slotsOf j) (b .told) ∙ slots-before (before .tally .bits) (b .bits) i k long (b .seven) j l;
     unused = λ j l m. of j l m (eqb i j) refl;
     more = omega (arith, grown (b .cplinu), bs .more, b .coupled);
+    long = bs .long;
   }
     where
       here : natural (shown i) ≡ i
@@ -243,7 +245,7 @@ module _ (h : Header) where
 
   of-blocks : (n i : ℕ) (before : Carry) → i + n ≤ 6 → length (before .tally .bits) ≡ 42 → Walks (OfBlocks i n before) (turns i n before (audioBlock h))
   unfolding turns from
-  of-blocks zero i before k long = walks-done (record { sums = refl; earlier = λ j l. refl; unused = λ j l m. absurd (omega arith); more = omega arith })
+  of-blocks zero i before k long = walks-done (record { sums = refl; earlier = λ j l. refl; unused = λ j l m. absurd (omega arith); more = omega arith; long = long })
   of-blocks (suc n) i before k long =
       walks-then (of-block h i before) λ next ws b.
       walks-more (λ last later bs. one-more i n before next last ws later (omega arith) long b bs)
@@ -254,6 +256,7 @@ module _ (h : Header) where
 record OfFrame (a : Audio) (ws : List (ℕ × ℕ)) : Type 0 where
   pub sums : ws ≡ blockSums (a .tally .bits)
   pub unused : (blk : ℕ) → blk < 6 → Unused (nfchans (a .header .acmod)) (a .header .lfeon) (not (eqb (a .tally .coupled) 0)) (slotsOf blk (a .tally .bits))
+  pub long : length (a .tally .bits) ≡ 42
 
 of-frame : Walks OfFrame syncframe
 unfolding syncframe audio
@@ -261,7 +264,7 @@ of-frame =
     after-none marked-header λ h.
     walks-then (of-blocks h 6 0 unread (omega arith) refl) λ last ws bs.
     after-none (m-here (λ at. m-done)) λ end.
-    walks-done (record { sums = append-nil ws ∙ bs .sums; unused = λ blk k. bs .unused blk (omega arith) k })
+    walks-done (record { sums = append-nil ws ∙ bs .sums; unused = λ blk k. bs .unused blk (omega arith) k; long = bs .long })
 
 module _ (c : Call) (ok : Accepted c) where
   told : OfFrame (reaches c ok .answer) (walkedRows (listed c))
@@ -280,5 +283,15 @@ module _ (c : Call) (ok : Accepted c) where
   unused blk k =
       subst (λ s. Unused (nfchans (s .header .acmod)) (s .header .lfeon) (not (eqb (s .tally .coupled) 0)) (slotsOf blk (s .tally .bits))) (sym summary-is) (told .unused blk k)
 
+zeros : (c : Call) → ¬ Accepted c → answerTo c .0 .summary .tally .bits ≡ replicate slotCounts 0
+zeros c not-ok = ap (λ s. s .tally .bits) (promised c refl .no-summary not-ok)
+
+forty-two : (c : Call) → length (answerTo c .0 .summary .tally .bits) ≡ slotCounts
+forty-two c = go (eqb (answerTo c .0 .refusal) 0) refl
+  where
+    go : (b : Bool) → eqb (answerTo c .0 .refusal) 0 ≡ b → length (answerTo c .0 .summary .tally .bits) ≡ slotCounts
+    go true e = let ok : Accepted c = eqb-true _ 0 e in ap (λ s. length (s .tally .bits)) (summary-is c ok) ∙ told c ok .long
+    go false e = ap length (zeros c (eqb-false _ 0 e))
+
 pub slot-bits : SlotBits
-slot-bits = record { sums = sums; unused = unused; none = λ c refused. ap (λ s. s .tally .bits) (promised c refl .no-summary refused) }
+slot-bits = record { sums = sums; unused = unused; long = forty-two; none = zeros }

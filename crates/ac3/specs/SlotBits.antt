@@ -6,7 +6,7 @@ use mathlib.Core.Path.{_≡_}
 use Prim.Native.Nat.{ℕ, zero, suc, _*_, _<_}
 use lib.Dec.{eqb}
 use lib.IntN.{ℤ}
-use lib.ListN.{take, drop, replicate}
+use lib.ListN.{length, take, drop, replicate}
 use Rattle.tables.specs.Tables.{nfchans}
 use Rattle.alloc.specs.Allocation.{from}
 use Rattle.syntax.specs.Names as Name
@@ -47,5 +47,6 @@ pub record SlotBits : Type 0 where
   -- channels that the frame does not have have 0 in every block, and so have LFE without lfeon, and coupling where no block uses it
   pub unused : (c : Call) → Accepted c → (blk : ℕ) → blk < 6
       → Unused (nfchans (summaryTo c .header .acmod)) (summaryTo c .header .lfeon) (not (eqb (summaryTo c .tally .coupled) 0)) (slotsOf blk (bitsTo c))
-  -- a refusal's are all zeros
+  -- there are forty-two, whatever is answered, and a refusal's are all zeros
+  pub long : (c : Call) → length (bitsTo c) ≡ slotCounts
   pub none : (c : Call) → ¬ Accepted c → bitsTo c ≡ replicate slotCounts 0

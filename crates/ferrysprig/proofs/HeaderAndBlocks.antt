@@ -11,6 +11,7 @@ use lib.IntN.{ℤ, pos, negsuc}
 use lib.ListN.{length, getD, drop}
 use lib.Seq.{drop-cons}
 use borrow.Author.Tests.{eqb-true, eqb-false, eq-eqb, ne-eqb}
+use Rattle.alloc.specs.Allocation.{from}
 use Rattle.signed.specs.Level.{eqZ}
 use Rattle.signed.proofs.Equal.{eqZ-yes, eqZ-no}
 use Rattle.syntax.specs.Numbers.{shown}
@@ -26,7 +27,7 @@ use Rattle.ac3.proofs.Promise.{promised}
 use Rattle.ac3.proofs.Within.{kept-within}
 use Rattle.ferrysprig.specs.Apart.{headerNumbers, headerTold, sameNumbers, takenBy, blocksHeld}
 use Rattle.ferrysprig.specs.HeaderAndBlocks.{endedNumbers, inTurnHeld, HeaderAndBlocksHeld}
-use Rattle.ferrysprig.specs.Numbers.{flag, inOrder, answerNumbers, told}
+use Rattle.ferrysprig.specs.Numbers.{flag, inOrder, bitsInOrder, bitsNumbers, answerNumbers, told}
 use Rattle.ferrysprig.specs.Promise.{refusalIn, bitIn, PromisedNumbers}
 use Rattle.ferrysprig.proofs.Promise.{promised-numbers}
 
@@ -197,7 +198,7 @@ module _ (c : Call) where
 -- ---- both in turn
 
 ended-told : (h : HeaderAnswer) → answerNumbers (endedAt h) ≡ endedNumbers (headerNumbers h)
-unfolding answerNumbers inOrder headerNumbers
+unfolding answerNumbers inOrder bitsNumbers bitsInOrder from headerNumbers
 ended-told h = refl
 
 in-turn-held : (c : Call) → told (answerTo c) ≡ inTurnHeld c

@@ -53,13 +53,17 @@ flag-back : (b : Bool) → eqb (flag b) 1 ≡ b
 flag-back true = refl
 flag-back false = refl
 
+-- so many are told of every call
+pub long-told : (c : Call) {x : Answer × List ℤ} → x ≡ answerTo c → length (x .0 .summary .tally .bits) ≡ slotCounts
+long-told c e = subst (λ (x : Answer × List ℤ). length (x .0 .summary .tally .bits) ≡ slotCounts) (sym e) (slot-bits .long c)
+
 module _ (c : Call) (a : Answer) (after : List ℤ) (kept : Promised c a after) where
   is : answerTo c ≡ (a, after)
   is = sym (determined c kept)
 
   whole : bitsInOrder (a .summary) ≡ a .summary .tally .bits
   unfolding bitsInOrder
-  whole = entries (a .summary .tally .bits) slotCounts (subst (λ (x : Answer × List ℤ). length (x .0 .summary .tally .bits) ≡ slotCounts) is (slot-bits .long c))
+  whole = entries (a .summary .tally .bits) slotCounts (long-told c (determined c kept))
 
   told-bits : map natural (bitsIn (answerNumbers a)) ≡ a .summary .tally .bits
   unfolding answerNumbers inOrder bitsNumbers bitsInOrder from

@@ -10,9 +10,11 @@ use profile::numbers_of;
 use syntax::rows::shown;
 ghost use mathlib.Core.Path.{_≡_};
 ghost use Prim.Native.Nat.{_≤_};
+ghost use lib.ListN.{length};
 ghost use Rattle.bits.specs.Bits.{rangeEq};
 ghost use Rattle.syntax.specs.Names as Name;
 ghost use Rattle.ac3.specs.Frame as frame;
+ghost use Rattle.ac3.specs.Frame.{slotCounts};
 ghost use Rattle.ac3.specs.Promise.{call};
 ghost use Rattle.ac3.specs.RowBound.{mostRows};
 ghost use Rattle.ac3.specs.Marked.{among};
@@ -92,6 +94,7 @@ fn in_order(a: Answer) -> [u16; BLOCK]
 // All of them as the caller reads them.
 fn numbers(a: Answer) -> [i32; ANSWER]
     requires { ⌜ (a .rows ≤ mostRows) × (a .summary .rows ≤ mostRows) ⌝ }
+    requires { ⌜ length (a .summary .tally .bits) ≡ slotCounts ⌝ }
     ensures { λ r. ⌜ r ≡ answerNumbers a ⌝ }
 {
     let small = in_order(a);

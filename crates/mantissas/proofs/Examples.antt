@@ -7,9 +7,8 @@ use Rattle.syntax.specs.Run.{sum}
 use Rattle.slots.specs.Slots.{CPL, LFE}
 use Rattle.slots.specs.declared.Coupling.{Coupling}
 use Rattle.alloc.specs.Allocation.{from}
-use Rattle.mantissas.specs.BySlot.{bySlot, bitsIn}
 use Rattle.mantissas.specs.Parts.{part, channelParts, parts}
-use Rattle.mantissas.specs.Mantissas.{widths, noneOpen}
+use Rattle.mantissas.specs.Mantissas.{widths, noneOpen, bitsIn, bySlot}
 
 -- channels 1 and 2 of three are coupled from bin 97 up to bin 108
 coupling : Coupling

@@ -30,3 +30,8 @@ one-group = refl
 shared : bySlot (part 0 0 3 ∷ part 1 0 3 ∷ []) (widths noneOpen (1 ∷ 1 ∷ 4 ∷ 1 ∷ 4 ∷ 4 ∷ [])) ≡ 12 ∷ 7 ∷ 0 ∷ 0 ∷ 0 ∷ 0 ∷ 0 ∷ []
 unfolding bySlot bitsIn from sum widths
 shared = refl
+
+-- coupling and LFE have nothing but members of groups that channel 0 began: no bits
+begun-elsewhere : bySlot (part 0 0 3 ∷ part CPL 37 39 ∷ part LFE 0 1 ∷ []) (widths noneOpen (1 ∷ 2 ∷ 4 ∷ 1 ∷ 2 ∷ 4 ∷ [])) ≡ 19 ∷ 0 ∷ 0 ∷ 0 ∷ 0 ∷ 0 ∷ 0 ∷ []
+unfolding bySlot bitsIn from sum widths
+begun-elsewhere = refl

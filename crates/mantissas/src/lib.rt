@@ -89,8 +89,9 @@ fn none_read(cursor: Cursor) -> MantissasRead
     }
 }
 
-// One span; the answer is its first bit and the bits of the slots. Walked first, and its row is written after. What was counted of the slots in earlier blocks is lent; what
-// was counted from exponents that are new in this block is forgotten before all else, so that it is true of the exponents whatever is read.
+// One span; the answer is its first bit and the bits of the slots. Walked first, and its row is written after. What was counted of the
+// slots in earlier blocks is lent; what was counted from exponents that are new in this block is forgotten before all else, so that it is
+// true of the exponents whatever is read.
 pub fn mantissas(
     rows: &mut [i32],
     c: Cursor,

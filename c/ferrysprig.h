@@ -24,7 +24,7 @@ extern "C" {
 #define FERRYSPRIG_VERSION "0.1.0"
 #define FERRYSPRIG_VERSION_NUMBER 100 /* 10,000 times the first part, 100 times the second, and the third */
 
-/* Bytes of stack that are enough for a call. (c/test.c measures it: ferrysprig_blocks takes some 13,700, any other call some 12,000, and
+/* Bytes of stack that are enough for a call. (c/test.c measures it: ferrysprig_blocks takes some 14,200, any other call some 12,700, and
    where the program finds memcpy and the others at their first use, the loader takes some 1,800 to 2,400 more, by processor.) */
 #define FERRYSPRIG_STACK_BYTES 20480
 
@@ -54,8 +54,15 @@ enum {
 };
 #define FERRYSPRIG_ROW_NUMBERS 9
 
-/* The numbers of an answer. From FERRYSPRIG_ANSWER_SUMMARY to FERRYSPRIG_ANSWER_COORDINATES_SENT they are the summary of an accepted frame,
-   and 0 on a refusal; yes is 1. */
+/* The slots of a block's mantissas: channels 0 to 4, and these two. */
+enum {
+    FERRYSPRIG_SLOT_COUPLING = 5,
+    FERRYSPRIG_SLOT_LFE = 6
+};
+#define FERRYSPRIG_SLOTS 7
+
+/* The numbers of an answer. From FERRYSPRIG_ANSWER_SUMMARY to FERRYSPRIG_ANSWER_COORDINATES_SENT, and from FERRYSPRIG_ANSWER_MANTISSA_BITS
+   on, they are the summary of an accepted frame, and 0 on a refusal; yes is 1. */
 enum {
     FERRYSPRIG_ANSWER_REFUSAL = 0,           /* 0: accepted; else 1 to 23, see FERRYSPRIG_MEANINGS */
     FERRYSPRIG_ANSWER_ROWS = 1,              /* how many rows were written, on a refusal too */
@@ -73,9 +80,12 @@ enum {
     FERRYSPRIG_ANSWER_COORDINATES_SENT = 23, /* whether in every block each coupled channel has cplcoe 1, or had it in an earlier block
                                                 while it was coupled; yes if no block uses coupling */
     FERRYSPRIG_ANSWER_NAME = 24,             /* at refusal 6 the name of the field, span or mantissas that did not fit the frame; else 0 */
-    FERRYSPRIG_ANSWER_BLOCK = 25             /* and its block, -1 in the header; else -1 */
+    FERRYSPRIG_ANSWER_BLOCK = 25,            /* and its block, -1 in the header; else -1 */
+    FERRYSPRIG_ANSWER_MANTISSA_BITS = 26     /* 26 to 67: number 26 + FERRYSPRIG_SLOTS * block + slot is how many bits that slot's mantissas
+                                                take in that block. A group's are counted to the slot of its first member; a slot that is
+                                                not in use has 0. The seven of a block sum to the width of its mantissas */
 };
-#define FERRYSPRIG_ANSWER_NUMBERS 26
+#define FERRYSPRIG_ANSWER_NUMBERS 68
 
 /* The roles that rows have. (Numbers 3, 4 and 16 to 20 of the original's belong to the frame's tail and to E-AC-3.) */
 enum {
@@ -191,7 +201,7 @@ enum {
    The rows lie end to end from bit 0; those of an accepted frame end at audio_end. On a refusal the last row has the bad value at 2, 5, 8,
    11, 16 to 19 and 21 to 23. At 3 it is one of the last two, fscod and frmsizecod; at 9 both of them together, cplbegf and cplendf. At 10,
    12 to 15 and 20 the last row is not to blame, but what was sent, or never sent, before; at 1, 4, 6 and 7 input, frame or room end too
-   early, and at 6 the answer's last two numbers say what did not fit. */
+   early, and at 6 the answer's name and block say what did not fit. */
 void ferrysprig_parse(const uint8_t *capture, size_t capture_len, size_t place, int32_t *rows, size_t rows_len,
                       int32_t answer[FERRYSPRIG_ANSWER_NUMBERS]);
 

@@ -47,6 +47,9 @@ static bool refused_at(int32_t number, int32_t count, int32_t bit) {
     for (int i = FERRYSPRIG_ANSWER_SUMMARY; i <= FERRYSPRIG_ANSWER_COORDINATES_SENT; i++)
         if (answer[i] != 0)
             return false;
+    for (int i = FERRYSPRIG_ANSWER_MANTISSA_BITS; i < FERRYSPRIG_ANSWER_NUMBERS; i++)
+        if (answer[i] != 0)
+            return false;
     return answer[FERRYSPRIG_ANSWER_REFUSAL] == number && answer[FERRYSPRIG_ANSWER_ROWS] == count && answer[FERRYSPRIG_ANSWER_BIT] == bit;
 }
 
@@ -110,6 +113,15 @@ static bool parts(int32_t name, int32_t index, int32_t count) {
     return next == count;
 }
 
+/* Whether these are the bits of the mantissas in block 0, by slot, and the other blocks have none. */
+static bool mantissa_bits(const int32_t block_0[FERRYSPRIG_SLOTS]) {
+    const int32_t *bits = &answer[FERRYSPRIG_ANSWER_MANTISSA_BITS];
+    for (int i = FERRYSPRIG_SLOTS; i < 6 * FERRYSPRIG_SLOTS; i++)
+        if (bits[i] != 0)
+            return false;
+    return memcmp(bits, block_0, FERRYSPRIG_SLOTS * sizeof *bits) == 0;
+}
+
 /* Frames of judge/corners.txt. */
 static void try_frames(void) {
     const uint8_t plain[] = {0x0B, 0x77, 0x00, 0x00, 0x00, 0x40, 0x20, 0x00, 0x0B, 0x00, 0x1F, 0x3E, 0x7C, 0xF9, 0xF3, 0xE2, 0x00, 0x20};
@@ -135,6 +147,18 @@ static void try_frames(void) {
         0x00, 0x00, 0x30, 0x7C, 0xF9, 0xF3, 0xE7, 0xCF, 0x9F, 0x3E};
     parse_frame(late_sent, sizeof late_sent);
     holds("a late channel with them", answer[FERRYSPRIG_ANSWER_ROWS] == 259 && answer[FERRYSPRIG_ANSWER_COORDINATES_SENT] == 1);
+    const uint8_t into_lfe[] = {0x0B, 0x77, 0x00, 0x00, 0x00, 0x40, 0x44, 0x00, 0x00, 0xF1, 0x01, 0x1F, 0xC1, 0xF0, 0x3E, 0x7C, 0xF9, 0xF3,
+        0xE3, 0xFE, 0x70, 0x7C, 0xF9, 0xF0, 0x0F, 0x9F, 0x40, 0x04, 0x1F, 0xE1, 0xC3, 0x87, 0x80, 0x00, 0x00, 0x00, 0x00, 0x00, 0x00, 0x00,
+        0x00, 0x00, 0x00, 0x00, 0x00, 0x00, 0x00, 0x00, 0x00, 0x04, 0x00, 0xE1, 0xC3, 0x87};
+    const int32_t coupling_and_lfe[FERRYSPRIG_SLOTS] = {[0] = 85, [FERRYSPRIG_SLOT_COUPLING] = 20, [FERRYSPRIG_SLOT_LFE] = 10};
+    parse_frame(into_lfe, sizeof into_lfe);
+    holds("mantissa groups from a channel into coupling, and from there into LFE", answer[FERRYSPRIG_ANSWER_REFUSAL] == 0
+              && mantissa_bits(coupling_and_lfe));
+    const uint8_t members_alone[] = {0x0B, 0x77, 0x00, 0x00, 0x00, 0x40, 0x30, 0x00, 0x0B, 0x80, 0x0F, 0x9F, 0x3E, 0x7C, 0xF9, 0xF0, 0xBE,
+        0xDF, 0x40, 0x04, 0x10, 0xE1, 0xC0, 0x00, 0x00, 0x00, 0x00, 0x00, 0x00, 0x00, 0x00, 0x00, 0x00, 0x00, 0x40, 0x0E, 0x1C};
+    parse_frame(members_alone, sizeof members_alone);
+    holds("LFE mantissas of the channel's last group alone", answer[FERRYSPRIG_ANSWER_REFUSAL] == 0
+              && mantissa_bits((const int32_t[FERRYSPRIG_SLOTS]){85}));
     const uint8_t no_cplstre[] = {0x0B, 0x77, 0x00, 0x00, 0x00, 0x40, 0x20};
     parse_frame(no_cplstre, sizeof no_cplstre);
     holds("no cplstre in block 0", refused_at(8, 21, 69) && unfit(0, -1));

@@ -8,13 +8,14 @@ import os, shutil, subprocess, sys
 
 CUT, BLOCKS, MOD, ALLOC = 'src/cut/ac3.rs', 'src/cut/blocks.rs', 'src/cut/mod.rs', 'ddpmeta/alloc.rs'
 UNCOUPLED = '                phsflginu = false;\n            }\n        }'
-WALK = '''            conventional(cur, &bap[ch], 0, endmant[ch], &mut g)?;
+WALK = '''            conventional(cur, &bap[ch], 0, endmant[ch], &mut g, &mut used[ch])?;
             if cplinu && chincpl[ch] && !got_cpl {
-                conventional(cur, &bap[CPL], cplstrt, cplend, &mut g)?;
+                conventional(cur, &bap[CPL], cplstrt, cplend, &mut g, &mut used[CPL])?;
                 got_cpl = true;
             }
 '''
 SENT = '                coordinates_sent &= !chincpl[ch] || had_coordinates[ch];\n'
+COUNTED = '        if n > 0 {\n            cur.raw(n, "mantissa")?;\n            *used += n;\n'
 RECORD = '        let at = ROW * self.count;\n'
 READ = '        self.check(width, name, name)?;\n        let (block, pos)'
 SLIPS = [  # what, file, old, new
@@ -90,19 +91,25 @@ SLIPS = [  # what, file, old, new
     ('excitation without slow leak below band 22', ALLOC, '(fastleak - lowcomp).max(slowleak)', '(fastleak - lowcomp)'),
     ('exponents of a group repeated too little', BLOCKS, '            for _ in 0..grpsize {', '            for _ in 0..grpsize.min(3) {'),
     ('coupling mantissas before their channel', CUT, WALK, '''            if cplinu && chincpl[ch] && !got_cpl {
-                conventional(cur, &bap[CPL], cplstrt, cplend, &mut g)?;
+                conventional(cur, &bap[CPL], cplstrt, cplend, &mut g, &mut used[CPL])?;
                 got_cpl = true;
             }
-            conventional(cur, &bap[ch], 0, endmant[ch], &mut g)?;
+            conventional(cur, &bap[ch], 0, endmant[ch], &mut g, &mut used[ch])?;
 '''),
-    ('coupling mantissas after the channels', CUT, WALK + '        }\n', '''            conventional(cur, &bap[ch], 0, endmant[ch], &mut g)?;
+    ('coupling mantissas after the channels', CUT, WALK + '        }\n', '''            conventional(cur, &bap[ch], 0, endmant[ch], &mut g, &mut used[ch])?;
             got_cpl |= cplinu;
         }
         if got_cpl {
-            conventional(cur, &bap[CPL], cplstrt, cplend, &mut g)?;
+            conventional(cur, &bap[CPL], cplstrt, cplend, &mut g, &mut used[CPL])?;
         }
 '''),
-    ('LFE mantissas first', CUT, '        for ch in 0..nfchans {\n' + WALK + '        }\n        if lfeon {\n            conventional(cur, &bap[LFE], 0, 7, &mut g)?;\n        }\n', '        if lfeon {\n            conventional(cur, &bap[LFE], 0, 7, &mut g)?;\n        }\n        for ch in 0..nfchans {\n' + WALK + '        }\n'),
+    ('LFE mantissas first', CUT, '        for ch in 0..nfchans {\n' + WALK + '        }\n        if lfeon {\n            conventional(cur, &bap[LFE], 0, 7, &mut g, &mut used[LFE])?;\n        }\n', '        if lfeon {\n            conventional(cur, &bap[LFE], 0, 7, &mut g, &mut used[LFE])?;\n        }\n        for ch in 0..nfchans {\n' + WALK + '        }\n'),
+    # mantissa bits by slot
+    ("a group's bits counted to the slot of its last member", BLOCKS, COUNTED, '        *used += match b {\n            1 if g.g1 == 0 => 5,\n            2 if g.g2 == 0 => 7,\n            4 if g.g4 == 0 => 7,\n            1 | 2 | 4 => 0,\n            _ => n,\n        };\n' + COUNTED.replace('            *used += n;\n', '')),
+    ("coupling's bits counted to its first channel", CUT, '&mut used[CPL])?', '&mut used[ch])?'),
+    ("LFE's bits counted to coupling", CUT, '&mut used[LFE])?', '&mut used[CPL])?'),
+    ("all blocks' bits counted to the first", CUT, '&mut mantissa_bits[blk]', '&mut mantissa_bits[0]'),
+    ('bits told slot by slot', MOD, 'SLOTS * block + slot]', '6 * slot + block]'),
 ]
 
 UNSEEN = [

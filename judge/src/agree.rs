@@ -1,13 +1,15 @@
 //! The checks made on every input: the cut copy against the published parser, the rows against
-//! the table of names, their parts against what the rest of the rows tells, what did not fit against the rows and against the same run in a longer frame, and the room rule in the
-//! cursor against the rule derived from the run with ample room. A disagreement stops the program and shows the input.
+//! the table of names, their parts against what the rest of the rows tells, the bits of mantissas by slot against their groups, what did
+//! not fit against the rows and against the same run in a longer frame, and the room rule in the cursor against the rule derived from the
+//! run with ample room. A disagreement stops the program and shows the input.
 
 use crate::ac3;
 use crate::bits;
-use crate::cut::{answer, Answer, Unfit, MANY_ROWS};
+use crate::cut::{answer, walked, Answer, Unfit, MANY_ROWS};
 use crate::error::Error;
 use crate::hex;
 use crate::layout::{row, row_at, ROW};
+use crate::mantissas;
 use crate::names;
 use crate::parts;
 use crate::tables::ac3_frame_words;
@@ -17,6 +19,8 @@ use std::rc::Rc;
 pub struct Ample {
     pub answer: Answer,
     pub rows: Vec<i32>,
+    /// The pointers that were walked over.
+    pub pointers: Vec<u8>,
 }
 
 /// One call with given room, agreed upon.
@@ -52,12 +56,17 @@ impl Default for Judge {
 impl Judge {
     /// The answer with ample room; stops if the published parser says otherwise.
     pub fn ample(&mut self, capture: &[u8], place: usize) -> Ample {
-        let got = answer(capture, place, &mut self.room);
+        let (got, pointers) = walked(capture, place, &mut self.room);
         let rows = self.room[..got.rows * ROW].to_vec();
-        let ample = Ample { answer: got, rows };
+        let ample = Ample {
+            answer: got,
+            rows,
+            pointers,
+        };
         let data = capture.get(place..).unwrap_or(&[]);
         let agreed = agrees_with_published(&ample, data)
             .and_then(|_| parts::check(&ample.rows))
+            .and_then(|_| counted_by_slot(&ample))
             .and_then(|_| told_what_did_not_fit(&ample))
             .and_then(|_| self.comes_next_in_a_longer_frame(&ample, data));
         if let Err(why) = agreed {
@@ -69,7 +78,9 @@ impl Judge {
     /// At refusal 6, what did not fit is what comes next: the same fields in the longest frame of the same sampling rate, zeros at its end,
     /// give the same rows but for frmsizecod's value, and then a row of that name and block; or it does not fit there either.
     fn comes_next_in_a_longer_frame(&mut self, ample: &Ample, data: &[u8]) -> Result<(), String> {
-        let Ample { answer: got, rows } = ample;
+        let Ample {
+            answer: got, rows, ..
+        } = ample;
         if got.number() != 6 {
             return Ok(());
         }
@@ -141,7 +152,9 @@ fn same<T: PartialEq + std::fmt::Debug>(what: &str, ours: T, published: T) -> Re
 }
 
 fn agrees_with_published(ample: &Ample, data: &[u8]) -> Result<(), String> {
-    let Ample { answer: got, rows } = ample;
+    let Ample {
+        answer: got, rows, ..
+    } = ample;
     let mut end = 0;
     for row in rows.chunks(ROW) {
         if !names::fits(row) || row[row_at::POS] != end {
@@ -214,10 +227,20 @@ fn agrees_with_published(ample: &Ample, data: &[u8]) -> Result<(), String> {
     }
 }
 
+/// The bits of an accepted frame's mantissas by slot, against its rows and pointers.
+fn counted_by_slot(ample: &Ample) -> Result<(), String> {
+    match &ample.answer.verdict {
+        Ok(summary) => mantissas::check(&ample.rows, &ample.pointers, &summary.mantissa_bits),
+        Err(_) => Ok(()),
+    }
+}
+
 /// At refusal 6 alone something did not fit: the Rust's text begins with its name (a mantissa stands for its block's), and its block is
 /// that of the last row, or the next one at the first field of a block.
 fn told_what_did_not_fit(ample: &Ample) -> Result<(), String> {
-    let Ample { answer: got, rows } = ample;
+    let Ample {
+        answer: got, rows, ..
+    } = ample;
     let expected = match &got.verdict {
         Err(no) if no.number == 6 => {
             let name = match no.text.split(' ').next().expect("a word") {

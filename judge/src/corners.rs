@@ -238,6 +238,7 @@ pub fn all() -> Vec<Corner> {
     list.extend(allocation());
     list.extend(tail_and_room());
     list.extend(parts());
+    list.extend(groups());
     list
 }
 
@@ -307,6 +308,67 @@ fn parts() -> Vec<Corner> {
         )
         .rows(rows - 1)
         .left_over(ROW - 1),
+    ]
+}
+
+/// Groups of mantissas across slots: in block 0 every pointer is 1 or 0, and the other blocks are silent.
+fn groups() -> Vec<Corner> {
+    // A channel of level exponents has 49 pointers 1 then: sixteen groups, and a seventeenth is opened. Coupling has 12, LFE 7.
+    let loud = |a: &Asked| match (a.name, a.block) {
+        ("fgaincod" | "cplfgaincod" | "lfefgaincod", _) => Some(7),
+        ("csnroffst", 0) | ("snroffste", 1) | ("cplleake", 0) => Some(1),
+        ("cplfsnroffst", 0) => Some(15),
+        _ => None,
+    };
+    let with_lfe = |a: &Asked| (a.name == "lfeon").then_some(1).or_else(|| loud(a));
+    // Exponents 15, 17, 19, 21, then 23 on: nothing of the channel is heard.
+    let second_silent = |a: &Asked| match (a.name, a.index, a.nth) {
+        ("exps[ch][0]", 1, _) => Some(15),
+        ("exps[ch]", 1, 0) => Some(124),
+        ("exps[ch]", 1, 1) => Some(112),
+        _ => None,
+    };
+    vec![
+        corner(
+            "group-into-the-next-channel",
+            0,
+            small(&|a| (a.name == "acmod").then_some(2).or_else(|| loud(a))),
+            "channel 1 has the second and third member of channel 0's last group: 85 and 80 bits",
+        ),
+        corner(
+            "group-into-coupling",
+            0,
+            pair(2, loud),
+            "coupling ends channel 0's last group, and channel 1 that of coupling: 85, 20 and 80 bits",
+        ),
+        corner(
+            "group-into-lfe",
+            0,
+            small(&with_lfe),
+            "LFE ends the channel's last group: 85 and 10 bits",
+        ),
+        corner(
+            "group-from-coupling-into-lfe",
+            0,
+            pair(2, |a| second_silent(a).or_else(|| with_lfe(a))),
+            "the channel between them is silent: 85, 20, 0 and 10 bits",
+        ),
+        corner(
+            "slot-of-members-alone",
+            0,
+            small(&|a| match (a.name, a.nth) {
+                ("lfeexps[0]", _) => Some(5),
+                ("lfeexps", 0) => Some(123),
+                _ => with_lfe(a),
+            }),
+            "LFE has two pointers 1, which end the channel's last group: 85 and 0 bits",
+        ),
+        corner(
+            "slots-all-silent",
+            0,
+            pair(2, |a| (a.name == "lfeon").then_some(1)),
+            "two channels, coupling and LFE without a mantissa: 0 bits each",
+        ),
     ]
 }
 

@@ -5,6 +5,7 @@ use crate::corners;
 use crate::cut::{Unfit, REFUSALS};
 use crate::features::{self, FEATURES};
 use crate::layout::{row_at, NO_PART, ROW};
+use crate::mantissas;
 use crate::names::{self, number, Part, NAMES};
 use crate::tables::ac3_frame_words;
 use std::collections::BTreeMap;
@@ -42,6 +43,8 @@ pub const VALUE: &str = "name, value";
 pub const LAST_PART: &str = "name, last part";
 /// An accepted frame's feature, by its place in the list.
 pub const FEATURE: &str = "feature";
+/// What the mantissas of a block show, see `mantissas::SHOWN`.
+pub const MANTISSAS: &str = "mantissas";
 /// Where in a longer capture, see `PLACES`.
 pub const PLACE: &str = "place";
 /// Numbers of room left over beyond whole rows, in an accepted frame (0) and in refusal 7 (1).
@@ -133,6 +136,10 @@ pub fn reached(case: &Case<'_>) -> Vec<Goal> {
             goals.push((LEFT_OVER, 0, left_over));
             let features = features::of(&case.call.room[..ROW * answer.rows], s);
             goals.extend(features.into_iter().map(|f| (FEATURE, f, 0)));
+            let ample = &case.call.ample;
+            let blocks = mantissas::bins(&ample.rows, &ample.pointers).expect("agreed");
+            let shown = blocks.iter().flat_map(|block| mantissas::shown(block));
+            goals.extend(shown.map(|(what, of)| (MANTISSAS, what, of)));
             if case.place > 0 {
                 goals.push((PLACE, 1, 0));
             } else if case.input.len() > s.bytes {
@@ -267,6 +274,7 @@ pub fn required() -> Vec<Goal> {
     // Reuse in block 0 is always refused.
     goals.extend((1..24).map(|s| (STRATEGY, s / 4, s % 4)));
     goals.extend((0..FEATURES.len() as i32).map(|f| (FEATURE, f, 0)));
+    goals.extend(mantissas::sought().map(|(what, of)| (MANTISSAS, what, of)));
     goals.extend((0..PLACES.len() as i32).map(|p| (PLACE, p, 0)));
     goals.extend(last_parts().filter(|(_, n, last)| last + 1 == names::of(*n).part.most()));
     let row = ROW as i32;
@@ -324,6 +332,7 @@ pub fn say(goal: &Goal) -> String {
         VALUE => format!("{} {b}", name(a)),
         LAST_PART => format!("part {b} of {} as the last", name(a)),
         FEATURE => FEATURES[a as usize].into(),
+        MANTISSAS => mantissas::say(a, b),
         PLACE => PLACES[a as usize].into(),
         REFUSAL | BSID | OUTSIDE | CORNER => format!("{kind} {a}"),
         ONE_ROW_SHORT => kind.into(),
@@ -332,8 +341,8 @@ pub fn say(goal: &Goal) -> String {
 }
 
 /// What docs/FORMAT.md asks to run and compare, by name; then each of the four flags missing in block 0, refusal 6 at each sort of
-/// element, in block 0 and in block 5, and the corner cases of parts and of coordinates.
-pub fn by_name() -> [(&'static str, Goal); 26] {
+/// element, in block 0 and in block 5, and the corner cases of parts, of coordinates and of groups across slots.
+pub fn by_name() -> [(&'static str, Goal); 32] {
     let corners = corners::all();
     let corner = |name: &str| {
         let at = corners.iter().position(|corner| corner.name == name);
@@ -381,6 +390,24 @@ pub fn by_name() -> [(&'static str, Goal); 26] {
             "coordinates with acmod 0",
             corner("coordinates-two-programmes"),
         ),
+        (
+            "a group from a channel into the next",
+            corner("group-into-the-next-channel"),
+        ),
+        (
+            "a group from a channel into coupling",
+            corner("group-into-coupling"),
+        ),
+        ("a group from a channel into LFE", corner("group-into-lfe")),
+        (
+            "a group from coupling into LFE",
+            corner("group-from-coupling-into-lfe"),
+        ),
+        (
+            "a slot with members of other slots' groups alone",
+            corner("slot-of-members-alone"),
+        ),
+        ("all slots silent", corner("slots-all-silent")),
     ]
 }
 

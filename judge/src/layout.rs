@@ -1,6 +1,7 @@
 //! How rows and answers are laid out as numbers (docs/FORMAT.md): how many there are, and which stands where. No other file of
 //! the judge says it.
 
+use crate::cut::blocks::SLOTS;
 use crate::names::{number, role_numbers};
 use crate::syntax::Field;
 
@@ -39,14 +40,15 @@ pub fn row(field: &Field, part: i32) -> [i32; ROW] {
 }
 
 /// The numbers of an answer.
-pub const ANSWER: usize = 26;
+pub const ANSWER: usize = answer_at::MANTISSA_BITS + 6 * SLOTS;
 
 /// Which number of an answer is which.
 pub mod answer_at {
     pub const REFUSAL: usize = 0;
     pub const ROWS: usize = 1;
     pub const BIT: usize = 2;
-    /// From here up to `NAME` the numbers are an accepted frame's summary, all 0 on a refusal. The first is the row count again.
+    /// From here up to `NAME`, and from `MANTISSA_BITS` on, the numbers are an accepted frame's summary, all 0 on a refusal. The first is
+    /// the row count again.
     pub const SUMMARY: usize = 3;
     pub const BYTES: usize = 4;
     pub const AUDIO_END: usize = 5;
@@ -62,6 +64,13 @@ pub mod answer_at {
     /// Name and block of what did not fit, at refusal 6; 0 and -1 for every other answer, an accepted frame's too.
     pub const NAME: usize = 24;
     pub const BLOCK: usize = 25;
+    /// The bits of the mantissas of each slot of block 0, then of block 1, and so on.
+    pub const MANTISSA_BITS: usize = 26;
+}
+
+/// Which numbers of an answer are an accepted frame's summary, in their order.
+pub fn summary() -> impl Iterator<Item = usize> {
+    (answer_at::SUMMARY..answer_at::NAME).chain(answer_at::MANTISSA_BITS..ANSWER)
 }
 
 /// The numbers of an answer about the header.

@@ -1,11 +1,10 @@
 //! The text list of cases: its form, and one case at a time in both directions.
 
 use crate::cases::{Case, Edit};
-use crate::layout::{answer_at, ANSWER};
+use crate::layout::{answer_at, summary, ANSWER};
 use std::fmt::Write;
-use std::ops::Range;
 
-/// The numbers of an answer that a line has whatever the answer, in their order there, and those that it has on acceptance alone.
+/// The numbers of an answer that a line has whatever the answer, in their order there.
 const TOLD: [usize; 5] = [
     answer_at::REFUSAL,
     answer_at::ROWS,
@@ -13,7 +12,6 @@ const TOLD: [usize; 5] = [
     answer_at::NAME,
     answer_at::BLOCK,
 ];
-const SUMMARY: Range<usize> = answer_at::SUMMARY..answer_at::NAME;
 
 /// The head of the file.
 pub const HEAD: &str = "\
@@ -94,8 +92,8 @@ impl Listed {
         )
         .expect("text");
         if said.numbers[answer_at::REFUSAL] == 0 {
-            for n in &said.numbers[SUMMARY] {
-                write!(out, " {n}").expect("text");
+            for at in summary() {
+                write!(out, " {}", said.numbers[at]).expect("text");
             }
         }
         out
@@ -122,12 +120,12 @@ impl Listed {
             .map(|n| n.parse().expect("a number"))
             .collect();
         let (told, rest) = said.split_at(TOLD.len());
-        let (checksum, summary) = rest.split_first().expect("a checksum");
+        let (checksum, rest) = rest.split_first().expect("a checksum");
         let mut numbers = [0; ANSWER];
         for (at, from) in TOLD
             .into_iter()
-            .chain(SUMMARY)
-            .zip(told.iter().chain(summary))
+            .chain(summary())
+            .zip(told.iter().chain(rest))
         {
             numbers[at] = *from as i32;
         }

@@ -84,7 +84,7 @@ struct Candidate {
 const BESIDE: usize = 2 + 2 + 4 + 4 * ANSWER + 4;
 
 /// A case of fewer bytes than this is short.
-const SHORT: usize = 500;
+const SHORT: usize = BESIDE + 384;
 
 /// A list that reaches each goal that the generator reaches, with short cases; then more cases of
 /// all sorts, up to about `most` bytes.

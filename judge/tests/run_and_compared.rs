@@ -3,7 +3,7 @@
 
 use judge::agree::{Judge, Room};
 use judge::craft::small;
-use judge::layout::{answer_at, row_at, ROW};
+use judge::layout::{row_at, summary, ROW};
 use judge::names::number;
 
 const AMPLE: Room = Room::Sufficient { left_over: 0 };
@@ -45,8 +45,8 @@ fn rows_one_too_few() {
             assert_eq!((call.answer.number(), call.answer.rows), (7, limit));
             assert_eq!(call.room[..ROW * limit], enough.room[..ROW * limit]);
             let numbers = call.answer.numbers();
-            let summary = &numbers[answer_at::SUMMARY..answer_at::NAME];
-            assert!(summary.iter().all(|n| *n == 0), "the summary is all zeros");
+            let zeros = summary().all(|at| numbers[at] == 0);
+            assert!(zeros, "the summary is all zeros");
         }
     }
     let call = judge.call(&frame, 0, Room::Numbers(ROW * rows));

@@ -61,7 +61,7 @@ fn text_list() {
 #[test]
 fn binary_list() {
     let list = stored("replay.bin");
-    assert!(list.len() <= 400_000);
+    assert!(list.len() <= 600_000);
     let (mut judge, mut counts) = (Judge::default(), Counts::default());
     for (i, replayed) in replay::read(&list).into_iter().enumerate() {
         assert!(replayed.capture.len() <= LONGEST);

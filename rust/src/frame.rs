@@ -1,6 +1,6 @@
 //! What comes of parsing: a frame, in a list of its own or in lent room, or a refusal.
 
-use crate::layout::{answer_at, Answer};
+use crate::layout::{answer_at, Answer, SLOTS};
 use crate::names::{known, meaning, name_of};
 use crate::{Field, Fields, Role};
 use std::array::from_fn;
@@ -31,6 +31,10 @@ pub struct Summary {
     /// Whether in every block each coupled channel has cplcoe 1, or had it in an earlier block while it was coupled; yes where no block uses
     /// coupling.
     pub coordinates_sent: bool,
+    /// How many bits the mantissas of each slot take, by block and slot: channels 0 to 4, [`slot::COUPLING`](crate::slot::COUPLING),
+    /// [`slot::LFE`](crate::slot::LFE). A group's bits are counted to the slot of its first member, so a slot all of whose mantissas stand in
+    /// groups that were opened before it has 0; so has one that is not in use. The seven of a block sum to the width of its mantissas.
+    pub mantissa_bits: [[usize; SLOTS]; 6],
 }
 
 /// The summary in an accepted frame's answer.
@@ -46,6 +50,9 @@ pub(crate) fn summary(answer: &Answer) -> Summary {
         block_starts: from_fn(|block| known(answer[answer_at::BLOCK_STARTS + block])),
         mantissa_starts: from_fn(|block| known(answer[answer_at::MANTISSA_STARTS + block])),
         coordinates_sent: answer[answer_at::COORDINATES_SENT] == 1,
+        mantissa_bits: from_fn(|block| {
+            from_fn(|slot| known(answer[answer_at::MANTISSA_BITS + SLOTS * block + slot]))
+        }),
     }
 }
 

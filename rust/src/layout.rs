@@ -37,8 +37,19 @@ pub const MOST_BYTES: usize = 3840;
 /// Bytes that every frame has.
 pub const LEAST_BYTES: usize = 128;
 
+/// The slots of a block's mantissas: channels 0 to 4, coupling, LFE.
+pub const SLOTS: usize = 7;
+
+/// Which slot is which, beside the channels.
+pub mod slot {
+    /// The coupling channel.
+    pub const COUPLING: usize = 5;
+    /// The LFE channel.
+    pub const LFE: usize = 6;
+}
+
 /// The numbers of an answer.
-pub const ANSWER_NUMBERS: usize = 26;
+pub const ANSWER_NUMBERS: usize = 68;
 
 /// Which number of an answer is which. (Number 3, the first of an accepted frame's summary, is the count of rows again.)
 pub mod answer_at {
@@ -62,6 +73,8 @@ pub mod answer_at {
     /// Name and block of what did not fit, at refusal 6; else 0 and -1.
     pub const NAME: usize = 24;
     pub const BLOCK: usize = 25;
+    /// `SLOTS` for each block.
+    pub const MANTISSA_BITS: usize = 26;
 }
 
 pub type Answer = [i32; ANSWER_NUMBERS];

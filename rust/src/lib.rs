@@ -39,6 +39,22 @@
 //! # Ok::<(), ferrysprig::Refusal>(())
 //! ```
 //!
+//! # Where the bits went
+//!
+//! [`Summary::mantissa_bits`] tells, block by block, how many bits the mantissas of each channel take, of coupling and of LFE:
+//!
+//! ```
+//! # let stream = include_bytes!("../../judge/frames/coupling-03-3_2_lfe-tones.ac3");
+//! use ferrysprig::slot;
+//!
+//! let summary = ferrysprig::parse(stream)?.summary;
+//! for block in summary.mantissa_bits {
+//!     println!("channels {:?}, coupling {}, LFE {}", &block[..5], block[slot::COUPLING], block[slot::LFE]);
+//! }
+//! # assert!(summary.mantissa_bits.iter().all(|block| block[slot::COUPLING] > 0));
+//! # Ok::<(), ferrysprig::Refusal>(())
+//! ```
+//!
 //! # Headers alone
 //!
 //! Monitoring needs only what stands before the blocks: levels, modes, flags. [`header`] and [`Parser::header_at`] read that far and no
@@ -158,7 +174,7 @@ pub mod salvage;
 pub use field::{Field, Fields};
 pub use frame::{Frame, FrameRef, Refusal, Summary, Unfit};
 pub use header::{Header, HeaderRef, HeaderSummary};
-pub use layout::{LEAST_BYTES, MOST_BYTES, MOST_HEADER_ROWS, MOST_ROWS, ROW_NUMBERS};
+pub use layout::{slot, LEAST_BYTES, MOST_BYTES, MOST_HEADER_ROWS, MOST_ROWS, ROW_NUMBERS, SLOTS};
 pub use names::{Role, NAMES, REFUSALS};
 pub use parser::{
     blocks_into, header, header_at, header_into, parse, parse_at, parse_into, Parser,

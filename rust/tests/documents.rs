@@ -8,6 +8,7 @@ mod layout;
 use ferrysprig::burst::{self, Refusal};
 use ferrysprig::profile::{Profile, Rule};
 use ferrysprig::{aht, blocks_into, edit, header, level, listing, parse, salvage, Field, Role};
+use ferrysprig::{slot, SLOTS};
 use ferrysprig::{LEAST_BYTES, MOST_BYTES, MOST_HEADER_ROWS, MOST_ROWS, ROW_NUMBERS};
 use ferrysprig::{NAMES, REFUSALS};
 use files::text;
@@ -130,6 +131,8 @@ fn texts_are_those_of_the_header() {
 fn numbers_are_those_of_the_header() {
     assert_eq!(ROW_NUMBERS, number("FERRYSPRIG_ROW_NUMBERS"));
     assert_eq!(ANSWER_NUMBERS, number("FERRYSPRIG_ANSWER_NUMBERS"));
+    assert_eq!(SLOTS, number("FERRYSPRIG_SLOTS"));
+    assert_eq!(SLOTS, judge::cut::blocks::SLOTS);
     let of_header = number("FERRYSPRIG_HEADER_ANSWER_NUMBERS");
     assert_eq!(HEADER_ANSWER_NUMBERS, of_header);
     let of_burst = number("FERRYSPRIG_BURST_ANSWER_NUMBERS");
@@ -213,7 +216,9 @@ fn places_are_those_of_the_header() {
         ("COORDINATES_SENT", answer_at::COORDINATES_SENT),
         ("NAME", answer_at::NAME),
         ("BLOCK", answer_at::BLOCK),
+        ("MANTISSA_BITS", answer_at::MANTISSA_BITS),
     ];
+    let slots = [("COUPLING", slot::COUPLING), ("LFE", slot::LFE)];
     let header = [
         ("REFUSAL", header_answer_at::REFUSAL),
         ("ROWS", header_answer_at::ROWS),
@@ -285,6 +290,7 @@ fn places_are_those_of_the_header() {
     };
     assert_eq!(places("FERRYSPRIG_ROW_"), own(&row));
     assert_eq!(places("FERRYSPRIG_ANSWER_"), own(&answer));
+    assert_eq!(places("FERRYSPRIG_SLOT_"), own(&slots));
     assert_eq!(places("FERRYSPRIG_HEADER_ANSWER_"), own(&header));
     assert_eq!(places("FERRYSPRIG_BURST_ANSWER_"), own(&burst));
     assert_eq!(places("FERRYSPRIG_SALVAGE_ANSWER_"), own(&of_salvage));

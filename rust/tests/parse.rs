@@ -3,7 +3,7 @@
 mod files;
 
 use ferrysprig::{
-    parse, parse_at, parse_into, Field, Frame, Parser, Refusal, Role, MOST_BYTES, MOST_ROWS,
+    parse, parse_at, parse_into, slot, Field, Frame, Parser, Refusal, Role, MOST_BYTES, MOST_ROWS,
     REFUSALS, ROW_NUMBERS,
 };
 use std::cell::RefCell;
@@ -141,6 +141,37 @@ fn coordinates_are_asked_of_every_coupled_channel() {
     ] {
         let frame = parse(&corner_frame(case)).unwrap();
         assert_eq!(frame.summary.coordinates_sent, sent, "{case}");
+    }
+}
+
+#[test]
+fn mantissa_bits_are_counted_by_slot() {
+    for (case, block_0) in [
+        ("group-into-the-next-channel", [85, 80, 0, 0, 0, 0, 0]),
+        ("group-into-coupling", [85, 80, 0, 0, 0, 20, 0]),
+        ("group-into-lfe", [85, 0, 0, 0, 0, 0, 10]),
+        ("group-from-coupling-into-lfe", [85, 0, 0, 0, 0, 20, 10]),
+        ("slot-of-members-alone", [85, 0, 0, 0, 0, 0, 0]),
+        ("slots-all-silent", [0; 7]),
+    ] {
+        let frame = parse(&corner_frame(case)).unwrap();
+        let bits = frame.summary.mantissa_bits;
+        assert_eq!(bits[0], block_0, "{case}");
+        assert_eq!(bits[1..], [[0; 7]; 5], "{case}");
+        assert_eq!(bits[0][slot::COUPLING], block_0[5]);
+        assert_eq!(bits[0][slot::LFE], block_0[6]);
+    }
+}
+
+#[test]
+fn they_sum_to_the_mantissas() {
+    for (name, stream) in files::frames() {
+        let Ok(frame) = parse(&stream) else { continue };
+        let mut mantissas = frame.all(Role::Mantissas);
+        for slots in frame.summary.mantissa_bits {
+            let width = mantissas.next().unwrap().width;
+            assert_eq!(slots.iter().sum::<usize>(), width, "{name}");
+        }
     }
 }
 

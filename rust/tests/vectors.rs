@@ -42,6 +42,9 @@ fn said(answer: &Result<Frame, Refusal>, room: &[i32]) -> Said {
                 tell(answer_at::MANTISSA_STARTS + block, start);
             }
             tell(answer_at::COORDINATES_SENT, s.coordinates_sent.into());
+            for (at, bits) in s.mantissa_bits.as_flattened().iter().enumerate() {
+                tell(answer_at::MANTISSA_BITS + at, *bits);
+            }
         }
     }
     Said {

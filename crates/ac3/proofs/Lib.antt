@@ -23,4 +23,5 @@ pub mod Told
 pub mod HeaderRows
 pub mod Later
 pub mod HeaderAndBlocks
+pub mod SlotBits
 pub mod Proved

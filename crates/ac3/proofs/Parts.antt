@@ -509,7 +509,7 @@ module _ (tail : List ℤ) where
       let nine : suc i * rowWidth ≡ suc (suc (suc (suc (suc (suc (suc (suc (suc (i * rowWidth))))))))) = omega arith in
       record { row = later .row; rest = later .rest; from = ap (λ n. drop n (flatten (r ∷ rs) ++ tail)) nine ∙ later .from; fits = later .fits }
 
-shown-part : (n : ℕ) → n < 255 → shown n ≡ pos n
+pub shown-part : (n : ℕ) → n < 255 → shown n ≡ pos n
 unfolding shown
 shown-part n small = go (eqb n 255) refl
   where

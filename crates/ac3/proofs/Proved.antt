@@ -16,6 +16,7 @@ use Rattle.ac3.proofs.Promise.{promised, reaches, answers-demand3}
 use Rattle.ac3.proofs.Rooms.{spans-by-role, rooms-demand3}
 use Rattle.ac3.proofs.RowBound.{row-bound}
 use Rattle.ac3.proofs.Sent.{sent-is-each-had}
+use Rattle.ac3.proofs.SlotBits.{slot-bits}
 use Rattle.ac3.proofs.Unfitting.{what-did-not-fit}
 use Rattle.ac3.proofs.Useless.{none-useless}
 use Rattle.ac3.proofs.Values.{values-on-each-side}
@@ -33,6 +34,7 @@ proved =
       demand3-held = rooms-demand3;
       spans-by-role = spans-by-role;
       demand3-grammar = ac3-demand3;
+      slot-bits = slot-bits;
       edit-freely = edit-freely;
       later-bytes = later-bytes;
       only-what-was-read = only-what-was-read syncframe;

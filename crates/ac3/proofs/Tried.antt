@@ -13,7 +13,7 @@ use Rattle.alloc.specs.Allocation.{from, placed, snrOffset, psdOf, mappedPsd, l
 use Rattle.parameters.specs.Delta.{deltaCode, channelCode, segment, newDeltas, slotDeltas, codedDeltas, deltas}
 use Rattle.parameters.specs.Parameters.{newCurve, curve, fineOffset, channelOffset, newOffsets, offsets, newLeak, couplingLeak}
 use Rattle.exponents.specs.Exponents.{step, unpack, group, exponentSet, slotExponents, channelExponents, exponents}
-use Rattle.mantissas.specs.Mantissas.{silent, pointers as Mantissas-pointers, allPointers, widths, mantissas}
+use Rattle.mantissas.specs.Mantissas.{silent, pointers as Mantissas-pointers, allPointers, widths, bitsIn, bySlot, mantissas}
 use Rattle.mantissas.specs.Parts.{channelParts, parts}
 use Rattle.header.specs.Header.{syncinfo, programmeInfo, alternateInfo, timeCodes, additionalInfo, bsi, header}
 use Rattle.channels.specs.Coupling.{howMany, coupledChannels, joined, couplingBands, newCoupling, couplingStrategy, coordinate, channelCoordinates, phaseFlags, couplingCoordinates, rematrixing}
@@ -418,37 +418,37 @@ refusal-23 =
     ++ bytes 64 0x016779ae23db0f771b3cd725400e3e4db2360f3100001ee000010330eedf89d78a9e45140ecd70591396925f1d0c70f02e66600a00cc237b073d0af5ca815a5b
 
 accepted :
-    (listing 1820 stereo ≡ 211 ∷ 1254 ∷ 1687316358851013630 ∷ 0 ∷ 160 ∷ 8 ∷ 2 ∷ 0 ∷ 0 ∷ 6 ∷ 67 ∷ 513 ∷ 688 ∷ 817 ∷ 946 ∷ 1100 ∷ 404 ∷ 579 ∷ 708 ∷ 837 ∷ 991 ∷ 1145 ∷ 1 ∷ [])
-    × (listing 1820 mono ≡ 133 ∷ 2174 ∷ 1070593261574896366 ∷ 0 ∷ 278 ∷ 8 ∷ 1 ∷ 0 ∷ 1 ∷ 0 ∷ 65 ∷ 704 ∷ 998 ∷ 1292 ∷ 1586 ∷ 1880 ∷ 420 ∷ 714 ∷ 1008 ∷ 1302 ∷ 1596 ∷ 1890 ∷ 1 ∷ [])
-    × (listing 1820 two-programmes ≡ 327 ∷ 1530 ∷ 1679016584205727469 ∷ 0 ∷ 192 ∷ 6 ∷ 0 ∷ 1 ∷ 2 ∷ 6 ∷ 73 ∷ 754 ∷ 859 ∷ 1175 ∷ 1257 ∷ 1328 ∷ 711 ∷ 830 ∷ 1151 ∷ 1233 ∷ 1304 ∷ 1506 ∷ 0 ∷ [])
-    × (listing 1820 eight-segments ≡ 236 ∷ 605 ∷ 623095571539255108 ∷ 0 ∷ 128 ∷ 6 ∷ 0 ∷ 1 ∷ 0 ∷ 6 ∷ 73 ∷ 327 ∷ 364 ∷ 395 ∷ 426 ∷ 568 ∷ 327 ∷ 364 ∷ 395 ∷ 426 ∷ 568 ∷ 605 ∷ 0 ∷ [])
-    × (listing 1820 surround ≡ 364 ∷ 1395 ∷ 1368316862619759103 ∷ 0 ∷ 384 ∷ 8 ∷ 7 ∷ 1 ∷ 0 ∷ 0 ∷ 150 ∷ 554 ∷ 668 ∷ 893 ∷ 992 ∷ 1251 ∷ 554 ∷ 668 ∷ 893 ∷ 992 ∷ 1251 ∷ 1395 ∷ 1 ∷ [])
-    × (listing 1820 coupled-surround ≡ 353 ∷ 1272 ∷ 1773707119003245062 ∷ 0 ∷ 160 ∷ 8 ∷ 4 ∷ 1 ∷ 0 ∷ 6 ∷ 132 ∷ 665 ∷ 870 ∷ 943 ∷ 1112 ∷ 1205 ∷ 665 ∷ 870 ∷ 943 ∷ 1112 ∷ 1205 ∷ 1272 ∷ 0 ∷ [])
-    × (listing 1820 three-front ≡ 230 ∷ 1089 ∷ 1193157268220887521 ∷ 0 ∷ 192 ∷ 8 ∷ 3 ∷ 0 ∷ 2 ∷ 6 ∷ 81 ∷ 511 ∷ 625 ∷ 739 ∷ 855 ∷ 979 ∷ 438 ∷ 552 ∷ 666 ∷ 782 ∷ 906 ∷ 1016 ∷ 0 ∷ [])
-    × (listing 1820 one-surround ≡ 201 ∷ 788 ∷ 443495983195877646 ∷ 0 ∷ 128 ∷ 6 ∷ 5 ∷ 0 ∷ 0 ∷ 0 ∷ 84 ∷ 495 ∷ 560 ∷ 617 ∷ 674 ∷ 731 ∷ 460 ∷ 525 ∷ 582 ∷ 639 ∷ 696 ∷ 753 ∷ 1 ∷ [])
-    × (listing 1820 two-surround ≡ 296 ∷ 979 ∷ 1746701615328716398 ∷ 0 ∷ 128 ∷ 8 ∷ 6 ∷ 1 ∷ 0 ∷ 6 ∷ 75 ∷ 539 ∷ 617 ∷ 695 ∷ 785 ∷ 875 ∷ 509 ∷ 587 ∷ 665 ∷ 755 ∷ 845 ∷ 949 ∷ 0 ∷ [])
-    × (listing 1820 some-coupled ≡ 252 ∷ 820 ∷ 586386374867509809 ∷ 0 ∷ 128 ∷ 8 ∷ 2 ∷ 1 ∷ 0 ∷ 1 ∷ 96 ∷ 489 ∷ 632 ∷ 744 ∷ 760 ∷ 792 ∷ 489 ∷ 632 ∷ 744 ∷ 760 ∷ 792 ∷ 820 ∷ 1 ∷ [])
-    × (listing 1820 phase-flags ≡ 191 ∷ 431 ∷ 2074124762563544736 ∷ 0 ∷ 128 ∷ 4 ∷ 2 ∷ 0 ∷ 0 ∷ 6 ∷ 67 ∷ 279 ∷ 310 ∷ 341 ∷ 369 ∷ 400 ∷ 279 ∷ 310 ∷ 341 ∷ 369 ∷ 400 ∷ 431 ∷ 0 ∷ [])
-    × (listing 1820 pause ≡ 377 ∷ 2028 ∷ 1515393768675836011 ∷ 0 ∷ 256 ∷ 6 ∷ 0 ∷ 1 ∷ 0 ∷ 3 ∷ 231 ∷ 590 ∷ 970 ∷ 1439 ∷ 1712 ∷ 1788 ∷ 485 ∷ 898 ∷ 1417 ∷ 1690 ∷ 1773 ∷ 2028 ∷ 0 ∷ [])
-    × (listing 1820 joining ≡ 314 ∷ 1018 ∷ 1477599029914269909 ∷ 0 ∷ 160 ∷ 6 ∷ 2 ∷ 1 ∷ 0 ∷ 2 ∷ 96 ∷ 288 ∷ 430 ∷ 483 ∷ 540 ∷ 774 ∷ 288 ∷ 430 ∷ 483 ∷ 540 ∷ 774 ∷ 1018 ∷ 0 ∷ [])
-    × (listing 1820 quiet-coupling ≡ 327 ∷ 1099 ∷ 1001095495553235712 ∷ 0 ∷ 140 ∷ 6 ∷ 2 ∷ 0 ∷ 1 ∷ 1 ∷ 67 ∷ 240 ∷ 334 ∷ 524 ∷ 620 ∷ 783 ∷ 240 ∷ 334 ∷ 524 ∷ 620 ∷ 783 ∷ 1099 ∷ 0 ∷ [])
-    × (listing 1820 zero-width ≡ 96 ∷ 211 ∷ 2296638830452988407 ∷ 0 ∷ 128 ∷ 8 ∷ 1 ∷ 0 ∷ 0 ∷ 0 ∷ 65 ∷ 161 ∷ 171 ∷ 181 ∷ 191 ∷ 201 ∷ 161 ∷ 171 ∷ 181 ∷ 191 ∷ 201 ∷ 211 ∷ 1 ∷ [])
-    × (listing 1820 to-the-end ≡ 177 ∷ 1024 ∷ 1645789900954477477 ∷ 0 ∷ 128 ∷ 2 ∷ 1 ∷ 0 ∷ 0 ∷ 0 ∷ 100 ∷ 355 ∷ 590 ∷ 611 ∷ 631 ∷ 650 ∷ 329 ∷ 590 ∷ 611 ∷ 631 ∷ 650 ∷ 693 ∷ 1 ∷ [])
-    × (listing 1820 skip-nothing ≡ 98 ∷ 400 ∷ 70243059790895682 ∷ 0 ∷ 128 ∷ 5 ∷ 1 ∷ 0 ∷ 0 ∷ 0 ∷ 65 ∷ 200 ∷ 240 ∷ 280 ∷ 320 ∷ 360 ∷ 170 ∷ 210 ∷ 250 ∷ 290 ∷ 330 ∷ 370 ∷ 1 ∷ [])
-    × (listing 1820 addbsi-longest ≡ 99 ∷ 730 ∷ 1180059700245890026 ∷ 0 ∷ 128 ∷ 6 ∷ 1 ∷ 0 ∷ 0 ∷ 0 ∷ 583 ∷ 679 ∷ 689 ∷ 699 ∷ 710 ∷ 720 ∷ 679 ∷ 689 ∷ 699 ∷ 710 ∷ 720 ∷ 730 ∷ 1 ∷ [])
-    × (listing 1820 widest ≡ 207 ∷ 1088 ∷ 1253942583223131049 ∷ 0 ∷ 138 ∷ 5 ∷ 1 ∷ 0 ∷ 1 ∷ 0 ∷ 100 ∷ 269 ∷ 458 ∷ 545 ∷ 684 ∷ 1046 ∷ 269 ∷ 458 ∷ 545 ∷ 580 ∷ 1046 ∷ 1088 ∷ 1 ∷ [])
-    × (listing 1820 other-names-1 ≡ 563 ∷ 2776 ∷ 1967708164742970496 ∷ 0 ∷ 348 ∷ 6 ∷ 0 ∷ 0 ∷ 1 ∷ 6 ∷ 147 ∷ 1544 ∷ 1604 ∷ 1712 ∷ 1949 ∷ 2596 ∷ 1544 ∷ 1604 ∷ 1712 ∷ 1949 ∷ 2596 ∷ 2776 ∷ 0 ∷ [])
-    × (listing 1820 deltas-stay ≡ 150 ∷ 1098 ∷ 612091140150737585 ∷ 0 ∷ 138 ∷ 8 ∷ 1 ∷ 0 ∷ 1 ∷ 0 ∷ 138 ∷ 817 ∷ 850 ∷ 892 ∷ 926 ∷ 1044 ∷ 802 ∷ 835 ∷ 877 ∷ 911 ∷ 1009 ∷ 1063 ∷ 1 ∷ [])
-    × (listing 1820 bands-eighteen ≡ 266 ∷ 732 ∷ 1403960179331273181 ∷ 0 ∷ 128 ∷ 8 ∷ 2 ∷ 0 ∷ 0 ∷ 6 ∷ 67 ∷ 632 ∷ 652 ∷ 672 ∷ 692 ∷ 712 ∷ 632 ∷ 652 ∷ 672 ∷ 692 ∷ 712 ∷ 732 ∷ 1 ∷ [])
-    × (listing 1820 bands-one ≡ 198 ∷ 460 ∷ 1522623281577177158 ∷ 0 ∷ 128 ∷ 8 ∷ 2 ∷ 0 ∷ 0 ∷ 6 ∷ 67 ∷ 360 ∷ 380 ∷ 400 ∷ 420 ∷ 440 ∷ 360 ∷ 380 ∷ 400 ∷ 420 ∷ 440 ∷ 460 ∷ 1 ∷ [])
-    × (listing 1820 groups-to-the-end ≡ 374 ∷ 1598 ∷ 577431730805009659 ∷ 0 ∷ 256 ∷ 8 ∷ 3 ∷ 1 ∷ 0 ∷ 6 ∷ 67 ∷ 1478 ∷ 1502 ∷ 1526 ∷ 1550 ∷ 1574 ∷ 1478 ∷ 1502 ∷ 1526 ∷ 1550 ∷ 1574 ∷ 1598 ∷ 0 ∷ [])
-    × (listing 1820 segments-eight ≡ 412 ∷ 1168 ∷ 965782024263992707 ∷ 0 ∷ 192 ∷ 8 ∷ 7 ∷ 0 ∷ 0 ∷ 6 ∷ 69 ∷ 998 ∷ 1032 ∷ 1066 ∷ 1100 ∷ 1134 ∷ 998 ∷ 1032 ∷ 1066 ∷ 1100 ∷ 1134 ∷ 1168 ∷ 0 ∷ [])
-    × (listing 1820 late-channel ≡ 256 ∷ 660 ∷ 2189947234466581002 ∷ 0 ∷ 128 ∷ 8 ∷ 6 ∷ 0 ∷ 0 ∷ 6 ∷ 67 ∷ 441 ∷ 469 ∷ 573 ∷ 602 ∷ 631 ∷ 441 ∷ 469 ∷ 573 ∷ 602 ∷ 631 ∷ 660 ∷ 0 ∷ [])
-    × (listing 1820 comes-back ≡ 235 ∷ 634 ∷ 1843704781168628010 ∷ 0 ∷ 128 ∷ 8 ∷ 3 ∷ 0 ∷ 0 ∷ 6 ∷ 67 ∷ 375 ∷ 464 ∷ 562 ∷ 586 ∷ 610 ∷ 375 ∷ 464 ∷ 562 ∷ 586 ∷ 610 ∷ 634 ∷ 1 ∷ [])
-    × (listing 1820 off-and-on ≡ 193 ∷ 484 ∷ 1316331983646767939 ∷ 0 ∷ 128 ∷ 8 ∷ 2 ∷ 0 ∷ 0 ∷ 5 ∷ 67 ∷ 268 ∷ 392 ∷ 424 ∷ 444 ∷ 464 ∷ 268 ∷ 392 ∷ 424 ∷ 444 ∷ 464 ∷ 484 ∷ 1 ∷ [])
-    × (listing 1820 a-block-late ≡ 176 ∷ 396 ∷ 804892608931913972 ∷ 0 ∷ 128 ∷ 8 ∷ 2 ∷ 0 ∷ 0 ∷ 6 ∷ 67 ∷ 276 ∷ 316 ∷ 336 ∷ 356 ∷ 376 ∷ 276 ∷ 316 ∷ 336 ∷ 356 ∷ 376 ∷ 396 ∷ 0 ∷ [])
-    × (listing 1820 programmes-coupled ≡ 174 ∷ 397 ∷ 1943488180946144133 ∷ 0 ∷ 128 ∷ 8 ∷ 0 ∷ 0 ∷ 0 ∷ 6 ∷ 73 ∷ 297 ∷ 317 ∷ 337 ∷ 357 ∷ 377 ∷ 297 ∷ 317 ∷ 337 ∷ 357 ∷ 377 ∷ 397 ∷ 1 ∷ [])
-unfolding bitAt value bitsBefore sameBits rangeEq _>>=_ turns shown except exec andThen flatten landing finish roomCheck check sum unless run continue nfchans words48 words44 words32 frameBytes slowDecay fastDecay slowGain knee floor fastGain bandEnd logAdd hearing bap hebap bapBits vqBits gaqBits from placed snrOffset psdOf mappedPsd logadd bandSum bandOf startOf endOf bandPsd integratedPsd lowcomp lowAfter rises startLeak fallTo fallBy fallLeak leakStep excitations excitation overKnee maskOf maskingCurve deltaOf passed deltaIn deltaSum deltaApplied kept threshold thresholds addressOf bapOf Allocation-pointers allocationBy deltaCode channelCode segment newDeltas slotDeltas codedDeltas deltas newCurve curve fineOffset channelOffset newOffsets offsets newLeak couplingLeak step unpack group exponentSet slotExponents channelExponents exponents silent Mantissas-pointers allPointers widths mantissas channelParts parts syncinfo programmeInfo alternateInfo timeCodes additionalInfo bsi header howMany coupledChannels joined couplingBands newCoupling couplingStrategy coordinate channelCoordinates phaseFlags couplingCoordinates rematrixing channelStrategies exponentStrategies bandwidth bandwidths channelEnd channelEnds channelFlags dynamicRange channelSettings couplingSection exponentSection skipField allocState audioBlock audio syncframe answered bytes plusOne checksum verdict short every some coordinatesSent
+    (listing 1820 stereo ≡ 211 ∷ 1254 ∷ 1687316358851013630 ∷ 0 ∷ 160 ∷ 8 ∷ 2 ∷ 0 ∷ 0 ∷ 6 ∷ 67 ∷ 513 ∷ 688 ∷ 817 ∷ 946 ∷ 1100 ∷ 404 ∷ 579 ∷ 708 ∷ 837 ∷ 991 ∷ 1145 ∷ 1 ∷ 57 ∷ 52 ∷ 0 ∷ 0 ∷ 0 ∷ 0 ∷ 0 ∷ 57 ∷ 52 ∷ 0 ∷ 0 ∷ 0 ∷ 0 ∷ 0 ∷ 57 ∷ 52 ∷ 0 ∷ 0 ∷ 0 ∷ 0 ∷ 0 ∷ 57 ∷ 52 ∷ 0 ∷ 0 ∷ 0 ∷ 0 ∷ 0 ∷ 57 ∷ 52 ∷ 0 ∷ 0 ∷ 0 ∷ 0 ∷ 0 ∷ 57 ∷ 52 ∷ 0 ∷ 0 ∷ 0 ∷ 0 ∷ 0 ∷ [])
+    × (listing 1820 mono ≡ 133 ∷ 2174 ∷ 1070593261574896366 ∷ 0 ∷ 278 ∷ 8 ∷ 1 ∷ 0 ∷ 1 ∷ 0 ∷ 65 ∷ 704 ∷ 998 ∷ 1292 ∷ 1586 ∷ 1880 ∷ 420 ∷ 714 ∷ 1008 ∷ 1302 ∷ 1596 ∷ 1890 ∷ 1 ∷ 284 ∷ 0 ∷ 0 ∷ 0 ∷ 0 ∷ 0 ∷ 0 ∷ 284 ∷ 0 ∷ 0 ∷ 0 ∷ 0 ∷ 0 ∷ 0 ∷ 284 ∷ 0 ∷ 0 ∷ 0 ∷ 0 ∷ 0 ∷ 0 ∷ 284 ∷ 0 ∷ 0 ∷ 0 ∷ 0 ∷ 0 ∷ 0 ∷ 284 ∷ 0 ∷ 0 ∷ 0 ∷ 0 ∷ 0 ∷ 0 ∷ 284 ∷ 0 ∷ 0 ∷ 0 ∷ 0 ∷ 0 ∷ 0 ∷ [])
+    × (listing 1820 two-programmes ≡ 327 ∷ 1530 ∷ 1679016584205727469 ∷ 0 ∷ 192 ∷ 6 ∷ 0 ∷ 1 ∷ 2 ∷ 6 ∷ 73 ∷ 754 ∷ 859 ∷ 1175 ∷ 1257 ∷ 1328 ∷ 711 ∷ 830 ∷ 1151 ∷ 1233 ∷ 1304 ∷ 1506 ∷ 0 ∷ 0 ∷ 24 ∷ 0 ∷ 0 ∷ 0 ∷ 0 ∷ 19 ∷ 0 ∷ 10 ∷ 0 ∷ 0 ∷ 0 ∷ 0 ∷ 19 ∷ 0 ∷ 0 ∷ 0 ∷ 0 ∷ 0 ∷ 0 ∷ 24 ∷ 0 ∷ 0 ∷ 0 ∷ 0 ∷ 0 ∷ 0 ∷ 24 ∷ 0 ∷ 0 ∷ 0 ∷ 0 ∷ 0 ∷ 0 ∷ 24 ∷ 0 ∷ 0 ∷ 0 ∷ 0 ∷ 0 ∷ 0 ∷ 24 ∷ [])
+    × (listing 1820 eight-segments ≡ 236 ∷ 605 ∷ 623095571539255108 ∷ 0 ∷ 128 ∷ 6 ∷ 0 ∷ 1 ∷ 0 ∷ 6 ∷ 73 ∷ 327 ∷ 364 ∷ 395 ∷ 426 ∷ 568 ∷ 327 ∷ 364 ∷ 395 ∷ 426 ∷ 568 ∷ 605 ∷ 0 ∷ 0 ∷ 0 ∷ 0 ∷ 0 ∷ 0 ∷ 0 ∷ 0 ∷ 0 ∷ 0 ∷ 0 ∷ 0 ∷ 0 ∷ 0 ∷ 0 ∷ 0 ∷ 0 ∷ 0 ∷ 0 ∷ 0 ∷ 0 ∷ 0 ∷ 0 ∷ 0 ∷ 0 ∷ 0 ∷ 0 ∷ 0 ∷ 0 ∷ 0 ∷ 0 ∷ 0 ∷ 0 ∷ 0 ∷ 0 ∷ 0 ∷ 0 ∷ 0 ∷ 0 ∷ 0 ∷ 0 ∷ 0 ∷ 0 ∷ [])
+    × (listing 1820 surround ≡ 364 ∷ 1395 ∷ 1368316862619759103 ∷ 0 ∷ 384 ∷ 8 ∷ 7 ∷ 1 ∷ 0 ∷ 0 ∷ 150 ∷ 554 ∷ 668 ∷ 893 ∷ 992 ∷ 1251 ∷ 554 ∷ 668 ∷ 893 ∷ 992 ∷ 1251 ∷ 1395 ∷ 1 ∷ 0 ∷ 0 ∷ 0 ∷ 0 ∷ 0 ∷ 0 ∷ 0 ∷ 0 ∷ 0 ∷ 0 ∷ 0 ∷ 0 ∷ 0 ∷ 0 ∷ 0 ∷ 0 ∷ 0 ∷ 0 ∷ 0 ∷ 0 ∷ 0 ∷ 0 ∷ 0 ∷ 0 ∷ 0 ∷ 0 ∷ 0 ∷ 0 ∷ 0 ∷ 0 ∷ 0 ∷ 0 ∷ 0 ∷ 0 ∷ 0 ∷ 0 ∷ 0 ∷ 0 ∷ 0 ∷ 0 ∷ 0 ∷ 0 ∷ [])
+    × (listing 1820 coupled-surround ≡ 353 ∷ 1272 ∷ 1773707119003245062 ∷ 0 ∷ 160 ∷ 8 ∷ 4 ∷ 1 ∷ 0 ∷ 6 ∷ 132 ∷ 665 ∷ 870 ∷ 943 ∷ 1112 ∷ 1205 ∷ 665 ∷ 870 ∷ 943 ∷ 1112 ∷ 1205 ∷ 1272 ∷ 0 ∷ 0 ∷ 0 ∷ 0 ∷ 0 ∷ 0 ∷ 0 ∷ 0 ∷ 0 ∷ 0 ∷ 0 ∷ 0 ∷ 0 ∷ 0 ∷ 0 ∷ 0 ∷ 0 ∷ 0 ∷ 0 ∷ 0 ∷ 0 ∷ 0 ∷ 0 ∷ 0 ∷ 0 ∷ 0 ∷ 0 ∷ 0 ∷ 0 ∷ 0 ∷ 0 ∷ 0 ∷ 0 ∷ 0 ∷ 0 ∷ 0 ∷ 0 ∷ 0 ∷ 0 ∷ 0 ∷ 0 ∷ 0 ∷ 0 ∷ [])
+    × (listing 1820 three-front ≡ 230 ∷ 1089 ∷ 1193157268220887521 ∷ 0 ∷ 192 ∷ 8 ∷ 3 ∷ 0 ∷ 2 ∷ 6 ∷ 81 ∷ 511 ∷ 625 ∷ 739 ∷ 855 ∷ 979 ∷ 438 ∷ 552 ∷ 666 ∷ 782 ∷ 906 ∷ 1016 ∷ 0 ∷ 45 ∷ 0 ∷ 28 ∷ 0 ∷ 0 ∷ 0 ∷ 0 ∷ 45 ∷ 0 ∷ 28 ∷ 0 ∷ 0 ∷ 0 ∷ 0 ∷ 45 ∷ 0 ∷ 28 ∷ 0 ∷ 0 ∷ 0 ∷ 0 ∷ 45 ∷ 0 ∷ 28 ∷ 0 ∷ 0 ∷ 0 ∷ 0 ∷ 45 ∷ 0 ∷ 28 ∷ 0 ∷ 0 ∷ 0 ∷ 0 ∷ 45 ∷ 0 ∷ 28 ∷ 0 ∷ 0 ∷ 0 ∷ 0 ∷ [])
+    × (listing 1820 one-surround ≡ 201 ∷ 788 ∷ 443495983195877646 ∷ 0 ∷ 128 ∷ 6 ∷ 5 ∷ 0 ∷ 0 ∷ 0 ∷ 84 ∷ 495 ∷ 560 ∷ 617 ∷ 674 ∷ 731 ∷ 460 ∷ 525 ∷ 582 ∷ 639 ∷ 696 ∷ 753 ∷ 1 ∷ 0 ∷ 0 ∷ 0 ∷ 35 ∷ 0 ∷ 0 ∷ 0 ∷ 0 ∷ 0 ∷ 0 ∷ 35 ∷ 0 ∷ 0 ∷ 0 ∷ 0 ∷ 0 ∷ 0 ∷ 35 ∷ 0 ∷ 0 ∷ 0 ∷ 0 ∷ 0 ∷ 0 ∷ 35 ∷ 0 ∷ 0 ∷ 0 ∷ 0 ∷ 0 ∷ 0 ∷ 35 ∷ 0 ∷ 0 ∷ 0 ∷ 0 ∷ 0 ∷ 0 ∷ 35 ∷ 0 ∷ 0 ∷ 0 ∷ [])
+    × (listing 1820 two-surround ≡ 296 ∷ 979 ∷ 1746701615328716398 ∷ 0 ∷ 128 ∷ 8 ∷ 6 ∷ 1 ∷ 0 ∷ 6 ∷ 75 ∷ 539 ∷ 617 ∷ 695 ∷ 785 ∷ 875 ∷ 509 ∷ 587 ∷ 665 ∷ 755 ∷ 845 ∷ 949 ∷ 0 ∷ 0 ∷ 0 ∷ 0 ∷ 15 ∷ 0 ∷ 0 ∷ 15 ∷ 0 ∷ 0 ∷ 0 ∷ 15 ∷ 0 ∷ 0 ∷ 15 ∷ 0 ∷ 0 ∷ 0 ∷ 15 ∷ 0 ∷ 0 ∷ 15 ∷ 0 ∷ 0 ∷ 0 ∷ 15 ∷ 0 ∷ 0 ∷ 15 ∷ 0 ∷ 0 ∷ 0 ∷ 15 ∷ 0 ∷ 0 ∷ 15 ∷ 0 ∷ 0 ∷ 0 ∷ 15 ∷ 0 ∷ 0 ∷ 15 ∷ [])
+    × (listing 1820 some-coupled ≡ 252 ∷ 820 ∷ 586386374867509809 ∷ 0 ∷ 128 ∷ 8 ∷ 2 ∷ 1 ∷ 0 ∷ 1 ∷ 96 ∷ 489 ∷ 632 ∷ 744 ∷ 760 ∷ 792 ∷ 489 ∷ 632 ∷ 744 ∷ 760 ∷ 792 ∷ 820 ∷ 1 ∷ 0 ∷ 0 ∷ 0 ∷ 0 ∷ 0 ∷ 0 ∷ 0 ∷ 0 ∷ 0 ∷ 0 ∷ 0 ∷ 0 ∷ 0 ∷ 0 ∷ 0 ∷ 0 ∷ 0 ∷ 0 ∷ 0 ∷ 0 ∷ 0 ∷ 0 ∷ 0 ∷ 0 ∷ 0 ∷ 0 ∷ 0 ∷ 0 ∷ 0 ∷ 0 ∷ 0 ∷ 0 ∷ 0 ∷ 0 ∷ 0 ∷ 0 ∷ 0 ∷ 0 ∷ 0 ∷ 0 ∷ 0 ∷ 0 ∷ [])
+    × (listing 1820 phase-flags ≡ 191 ∷ 431 ∷ 2074124762563544736 ∷ 0 ∷ 128 ∷ 4 ∷ 2 ∷ 0 ∷ 0 ∷ 6 ∷ 67 ∷ 279 ∷ 310 ∷ 341 ∷ 369 ∷ 400 ∷ 279 ∷ 310 ∷ 341 ∷ 369 ∷ 400 ∷ 431 ∷ 0 ∷ 0 ∷ 0 ∷ 0 ∷ 0 ∷ 0 ∷ 0 ∷ 0 ∷ 0 ∷ 0 ∷ 0 ∷ 0 ∷ 0 ∷ 0 ∷ 0 ∷ 0 ∷ 0 ∷ 0 ∷ 0 ∷ 0 ∷ 0 ∷ 0 ∷ 0 ∷ 0 ∷ 0 ∷ 0 ∷ 0 ∷ 0 ∷ 0 ∷ 0 ∷ 0 ∷ 0 ∷ 0 ∷ 0 ∷ 0 ∷ 0 ∷ 0 ∷ 0 ∷ 0 ∷ 0 ∷ 0 ∷ 0 ∷ 0 ∷ [])
+    × (listing 1820 pause ≡ 377 ∷ 2028 ∷ 1515393768675836011 ∷ 0 ∷ 256 ∷ 6 ∷ 0 ∷ 1 ∷ 0 ∷ 3 ∷ 231 ∷ 590 ∷ 970 ∷ 1439 ∷ 1712 ∷ 1788 ∷ 485 ∷ 898 ∷ 1417 ∷ 1690 ∷ 1773 ∷ 2028 ∷ 0 ∷ 100 ∷ 0 ∷ 0 ∷ 0 ∷ 0 ∷ 0 ∷ 5 ∷ 72 ∷ 0 ∷ 0 ∷ 0 ∷ 0 ∷ 0 ∷ 0 ∷ 0 ∷ 22 ∷ 0 ∷ 0 ∷ 0 ∷ 0 ∷ 0 ∷ 0 ∷ 22 ∷ 0 ∷ 0 ∷ 0 ∷ 0 ∷ 0 ∷ 5 ∷ 10 ∷ 0 ∷ 0 ∷ 0 ∷ 0 ∷ 0 ∷ 0 ∷ 0 ∷ 0 ∷ 0 ∷ 0 ∷ 0 ∷ 0 ∷ [])
+    × (listing 1820 joining ≡ 314 ∷ 1018 ∷ 1477599029914269909 ∷ 0 ∷ 160 ∷ 6 ∷ 2 ∷ 1 ∷ 0 ∷ 2 ∷ 96 ∷ 288 ∷ 430 ∷ 483 ∷ 540 ∷ 774 ∷ 288 ∷ 430 ∷ 483 ∷ 540 ∷ 774 ∷ 1018 ∷ 0 ∷ 0 ∷ 0 ∷ 0 ∷ 0 ∷ 0 ∷ 0 ∷ 0 ∷ 0 ∷ 0 ∷ 0 ∷ 0 ∷ 0 ∷ 0 ∷ 0 ∷ 0 ∷ 0 ∷ 0 ∷ 0 ∷ 0 ∷ 0 ∷ 0 ∷ 0 ∷ 0 ∷ 0 ∷ 0 ∷ 0 ∷ 0 ∷ 0 ∷ 0 ∷ 0 ∷ 0 ∷ 0 ∷ 0 ∷ 0 ∷ 0 ∷ 0 ∷ 0 ∷ 0 ∷ 0 ∷ 0 ∷ 0 ∷ 0 ∷ [])
+    × (listing 1820 quiet-coupling ≡ 327 ∷ 1099 ∷ 1001095495553235712 ∷ 0 ∷ 140 ∷ 6 ∷ 2 ∷ 0 ∷ 1 ∷ 1 ∷ 67 ∷ 240 ∷ 334 ∷ 524 ∷ 620 ∷ 783 ∷ 240 ∷ 334 ∷ 524 ∷ 620 ∷ 783 ∷ 1099 ∷ 0 ∷ 0 ∷ 0 ∷ 0 ∷ 0 ∷ 0 ∷ 0 ∷ 0 ∷ 0 ∷ 0 ∷ 0 ∷ 0 ∷ 0 ∷ 0 ∷ 0 ∷ 0 ∷ 0 ∷ 0 ∷ 0 ∷ 0 ∷ 0 ∷ 0 ∷ 0 ∷ 0 ∷ 0 ∷ 0 ∷ 0 ∷ 0 ∷ 0 ∷ 0 ∷ 0 ∷ 0 ∷ 0 ∷ 0 ∷ 0 ∷ 0 ∷ 0 ∷ 0 ∷ 0 ∷ 0 ∷ 0 ∷ 0 ∷ 0 ∷ [])
+    × (listing 1820 zero-width ≡ 96 ∷ 211 ∷ 2296638830452988407 ∷ 0 ∷ 128 ∷ 8 ∷ 1 ∷ 0 ∷ 0 ∷ 0 ∷ 65 ∷ 161 ∷ 171 ∷ 181 ∷ 191 ∷ 201 ∷ 161 ∷ 171 ∷ 181 ∷ 191 ∷ 201 ∷ 211 ∷ 1 ∷ 0 ∷ 0 ∷ 0 ∷ 0 ∷ 0 ∷ 0 ∷ 0 ∷ 0 ∷ 0 ∷ 0 ∷ 0 ∷ 0 ∷ 0 ∷ 0 ∷ 0 ∷ 0 ∷ 0 ∷ 0 ∷ 0 ∷ 0 ∷ 0 ∷ 0 ∷ 0 ∷ 0 ∷ 0 ∷ 0 ∷ 0 ∷ 0 ∷ 0 ∷ 0 ∷ 0 ∷ 0 ∷ 0 ∷ 0 ∷ 0 ∷ 0 ∷ 0 ∷ 0 ∷ 0 ∷ 0 ∷ 0 ∷ 0 ∷ [])
+    × (listing 1820 to-the-end ≡ 177 ∷ 1024 ∷ 1645789900954477477 ∷ 0 ∷ 128 ∷ 2 ∷ 1 ∷ 0 ∷ 0 ∷ 0 ∷ 100 ∷ 355 ∷ 590 ∷ 611 ∷ 631 ∷ 650 ∷ 329 ∷ 590 ∷ 611 ∷ 631 ∷ 650 ∷ 693 ∷ 1 ∷ 26 ∷ 0 ∷ 0 ∷ 0 ∷ 0 ∷ 0 ∷ 0 ∷ 0 ∷ 0 ∷ 0 ∷ 0 ∷ 0 ∷ 0 ∷ 0 ∷ 0 ∷ 0 ∷ 0 ∷ 0 ∷ 0 ∷ 0 ∷ 0 ∷ 0 ∷ 0 ∷ 0 ∷ 0 ∷ 0 ∷ 0 ∷ 0 ∷ 0 ∷ 0 ∷ 0 ∷ 0 ∷ 0 ∷ 0 ∷ 0 ∷ 331 ∷ 0 ∷ 0 ∷ 0 ∷ 0 ∷ 0 ∷ 0 ∷ [])
+    × (listing 1820 skip-nothing ≡ 98 ∷ 400 ∷ 70243059790895682 ∷ 0 ∷ 128 ∷ 5 ∷ 1 ∷ 0 ∷ 0 ∷ 0 ∷ 65 ∷ 200 ∷ 240 ∷ 280 ∷ 320 ∷ 360 ∷ 170 ∷ 210 ∷ 250 ∷ 290 ∷ 330 ∷ 370 ∷ 1 ∷ 30 ∷ 0 ∷ 0 ∷ 0 ∷ 0 ∷ 0 ∷ 0 ∷ 30 ∷ 0 ∷ 0 ∷ 0 ∷ 0 ∷ 0 ∷ 0 ∷ 30 ∷ 0 ∷ 0 ∷ 0 ∷ 0 ∷ 0 ∷ 0 ∷ 30 ∷ 0 ∷ 0 ∷ 0 ∷ 0 ∷ 0 ∷ 0 ∷ 30 ∷ 0 ∷ 0 ∷ 0 ∷ 0 ∷ 0 ∷ 0 ∷ 30 ∷ 0 ∷ 0 ∷ 0 ∷ 0 ∷ 0 ∷ 0 ∷ [])
+    × (listing 1820 addbsi-longest ≡ 99 ∷ 730 ∷ 1180059700245890026 ∷ 0 ∷ 128 ∷ 6 ∷ 1 ∷ 0 ∷ 0 ∷ 0 ∷ 583 ∷ 679 ∷ 689 ∷ 699 ∷ 710 ∷ 720 ∷ 679 ∷ 689 ∷ 699 ∷ 710 ∷ 720 ∷ 730 ∷ 1 ∷ 0 ∷ 0 ∷ 0 ∷ 0 ∷ 0 ∷ 0 ∷ 0 ∷ 0 ∷ 0 ∷ 0 ∷ 0 ∷ 0 ∷ 0 ∷ 0 ∷ 0 ∷ 0 ∷ 0 ∷ 0 ∷ 0 ∷ 0 ∷ 0 ∷ 0 ∷ 0 ∷ 0 ∷ 0 ∷ 0 ∷ 0 ∷ 0 ∷ 0 ∷ 0 ∷ 0 ∷ 0 ∷ 0 ∷ 0 ∷ 0 ∷ 0 ∷ 0 ∷ 0 ∷ 0 ∷ 0 ∷ 0 ∷ 0 ∷ [])
+    × (listing 1820 widest ≡ 207 ∷ 1088 ∷ 1253942583223131049 ∷ 0 ∷ 138 ∷ 5 ∷ 1 ∷ 0 ∷ 1 ∷ 0 ∷ 100 ∷ 269 ∷ 458 ∷ 545 ∷ 684 ∷ 1046 ∷ 269 ∷ 458 ∷ 545 ∷ 580 ∷ 1046 ∷ 1088 ∷ 1 ∷ 0 ∷ 0 ∷ 0 ∷ 0 ∷ 0 ∷ 0 ∷ 0 ∷ 0 ∷ 0 ∷ 0 ∷ 0 ∷ 0 ∷ 0 ∷ 0 ∷ 0 ∷ 0 ∷ 0 ∷ 0 ∷ 0 ∷ 0 ∷ 0 ∷ 104 ∷ 0 ∷ 0 ∷ 0 ∷ 0 ∷ 0 ∷ 0 ∷ 0 ∷ 0 ∷ 0 ∷ 0 ∷ 0 ∷ 0 ∷ 0 ∷ 0 ∷ 0 ∷ 0 ∷ 0 ∷ 0 ∷ 0 ∷ 0 ∷ [])
+    × (listing 1820 other-names-1 ≡ 563 ∷ 2776 ∷ 1967708164742970496 ∷ 0 ∷ 348 ∷ 6 ∷ 0 ∷ 0 ∷ 1 ∷ 6 ∷ 147 ∷ 1544 ∷ 1604 ∷ 1712 ∷ 1949 ∷ 2596 ∷ 1544 ∷ 1604 ∷ 1712 ∷ 1949 ∷ 2596 ∷ 2776 ∷ 0 ∷ 0 ∷ 0 ∷ 0 ∷ 0 ∷ 0 ∷ 0 ∷ 0 ∷ 0 ∷ 0 ∷ 0 ∷ 0 ∷ 0 ∷ 0 ∷ 0 ∷ 0 ∷ 0 ∷ 0 ∷ 0 ∷ 0 ∷ 0 ∷ 0 ∷ 0 ∷ 0 ∷ 0 ∷ 0 ∷ 0 ∷ 0 ∷ 0 ∷ 0 ∷ 0 ∷ 0 ∷ 0 ∷ 0 ∷ 0 ∷ 0 ∷ 0 ∷ 0 ∷ 0 ∷ 0 ∷ 0 ∷ 0 ∷ 0 ∷ [])
+    × (listing 1820 deltas-stay ≡ 150 ∷ 1098 ∷ 612091140150737585 ∷ 0 ∷ 138 ∷ 8 ∷ 1 ∷ 0 ∷ 1 ∷ 0 ∷ 138 ∷ 817 ∷ 850 ∷ 892 ∷ 926 ∷ 1044 ∷ 802 ∷ 835 ∷ 877 ∷ 911 ∷ 1009 ∷ 1063 ∷ 1 ∷ 15 ∷ 0 ∷ 0 ∷ 0 ∷ 0 ∷ 0 ∷ 0 ∷ 15 ∷ 0 ∷ 0 ∷ 0 ∷ 0 ∷ 0 ∷ 0 ∷ 15 ∷ 0 ∷ 0 ∷ 0 ∷ 0 ∷ 0 ∷ 0 ∷ 15 ∷ 0 ∷ 0 ∷ 0 ∷ 0 ∷ 0 ∷ 0 ∷ 35 ∷ 0 ∷ 0 ∷ 0 ∷ 0 ∷ 0 ∷ 0 ∷ 35 ∷ 0 ∷ 0 ∷ 0 ∷ 0 ∷ 0 ∷ 0 ∷ [])
+    × (listing 1820 bands-eighteen ≡ 266 ∷ 732 ∷ 1403960179331273181 ∷ 0 ∷ 128 ∷ 8 ∷ 2 ∷ 0 ∷ 0 ∷ 6 ∷ 67 ∷ 632 ∷ 652 ∷ 672 ∷ 692 ∷ 712 ∷ 632 ∷ 652 ∷ 672 ∷ 692 ∷ 712 ∷ 732 ∷ 1 ∷ 0 ∷ 0 ∷ 0 ∷ 0 ∷ 0 ∷ 0 ∷ 0 ∷ 0 ∷ 0 ∷ 0 ∷ 0 ∷ 0 ∷ 0 ∷ 0 ∷ 0 ∷ 0 ∷ 0 ∷ 0 ∷ 0 ∷ 0 ∷ 0 ∷ 0 ∷ 0 ∷ 0 ∷ 0 ∷ 0 ∷ 0 ∷ 0 ∷ 0 ∷ 0 ∷ 0 ∷ 0 ∷ 0 ∷ 0 ∷ 0 ∷ 0 ∷ 0 ∷ 0 ∷ 0 ∷ 0 ∷ 0 ∷ 0 ∷ [])
+    × (listing 1820 bands-one ≡ 198 ∷ 460 ∷ 1522623281577177158 ∷ 0 ∷ 128 ∷ 8 ∷ 2 ∷ 0 ∷ 0 ∷ 6 ∷ 67 ∷ 360 ∷ 380 ∷ 400 ∷ 420 ∷ 440 ∷ 360 ∷ 380 ∷ 400 ∷ 420 ∷ 440 ∷ 460 ∷ 1 ∷ 0 ∷ 0 ∷ 0 ∷ 0 ∷ 0 ∷ 0 ∷ 0 ∷ 0 ∷ 0 ∷ 0 ∷ 0 ∷ 0 ∷ 0 ∷ 0 ∷ 0 ∷ 0 ∷ 0 ∷ 0 ∷ 0 ∷ 0 ∷ 0 ∷ 0 ∷ 0 ∷ 0 ∷ 0 ∷ 0 ∷ 0 ∷ 0 ∷ 0 ∷ 0 ∷ 0 ∷ 0 ∷ 0 ∷ 0 ∷ 0 ∷ 0 ∷ 0 ∷ 0 ∷ 0 ∷ 0 ∷ 0 ∷ 0 ∷ [])
+    × (listing 1820 groups-to-the-end ≡ 374 ∷ 1598 ∷ 577431730805009659 ∷ 0 ∷ 256 ∷ 8 ∷ 3 ∷ 1 ∷ 0 ∷ 6 ∷ 67 ∷ 1478 ∷ 1502 ∷ 1526 ∷ 1550 ∷ 1574 ∷ 1478 ∷ 1502 ∷ 1526 ∷ 1550 ∷ 1574 ∷ 1598 ∷ 0 ∷ 0 ∷ 0 ∷ 0 ∷ 0 ∷ 0 ∷ 0 ∷ 0 ∷ 0 ∷ 0 ∷ 0 ∷ 0 ∷ 0 ∷ 0 ∷ 0 ∷ 0 ∷ 0 ∷ 0 ∷ 0 ∷ 0 ∷ 0 ∷ 0 ∷ 0 ∷ 0 ∷ 0 ∷ 0 ∷ 0 ∷ 0 ∷ 0 ∷ 0 ∷ 0 ∷ 0 ∷ 0 ∷ 0 ∷ 0 ∷ 0 ∷ 0 ∷ 0 ∷ 0 ∷ 0 ∷ 0 ∷ 0 ∷ 0 ∷ [])
+    × (listing 1820 segments-eight ≡ 412 ∷ 1168 ∷ 965782024263992707 ∷ 0 ∷ 192 ∷ 8 ∷ 7 ∷ 0 ∷ 0 ∷ 6 ∷ 69 ∷ 998 ∷ 1032 ∷ 1066 ∷ 1100 ∷ 1134 ∷ 998 ∷ 1032 ∷ 1066 ∷ 1100 ∷ 1134 ∷ 1168 ∷ 0 ∷ 0 ∷ 0 ∷ 0 ∷ 0 ∷ 0 ∷ 0 ∷ 0 ∷ 0 ∷ 0 ∷ 0 ∷ 0 ∷ 0 ∷ 0 ∷ 0 ∷ 0 ∷ 0 ∷ 0 ∷ 0 ∷ 0 ∷ 0 ∷ 0 ∷ 0 ∷ 0 ∷ 0 ∷ 0 ∷ 0 ∷ 0 ∷ 0 ∷ 0 ∷ 0 ∷ 0 ∷ 0 ∷ 0 ∷ 0 ∷ 0 ∷ 0 ∷ 0 ∷ 0 ∷ 0 ∷ 0 ∷ 0 ∷ 0 ∷ [])
+    × (listing 1820 late-channel ≡ 256 ∷ 660 ∷ 2189947234466581002 ∷ 0 ∷ 128 ∷ 8 ∷ 6 ∷ 0 ∷ 0 ∷ 6 ∷ 67 ∷ 441 ∷ 469 ∷ 573 ∷ 602 ∷ 631 ∷ 441 ∷ 469 ∷ 573 ∷ 602 ∷ 631 ∷ 660 ∷ 0 ∷ 0 ∷ 0 ∷ 0 ∷ 0 ∷ 0 ∷ 0 ∷ 0 ∷ 0 ∷ 0 ∷ 0 ∷ 0 ∷ 0 ∷ 0 ∷ 0 ∷ 0 ∷ 0 ∷ 0 ∷ 0 ∷ 0 ∷ 0 ∷ 0 ∷ 0 ∷ 0 ∷ 0 ∷ 0 ∷ 0 ∷ 0 ∷ 0 ∷ 0 ∷ 0 ∷ 0 ∷ 0 ∷ 0 ∷ 0 ∷ 0 ∷ 0 ∷ 0 ∷ 0 ∷ 0 ∷ 0 ∷ 0 ∷ 0 ∷ [])
+    × (listing 1820 comes-back ≡ 235 ∷ 634 ∷ 1843704781168628010 ∷ 0 ∷ 128 ∷ 8 ∷ 3 ∷ 0 ∷ 0 ∷ 6 ∷ 67 ∷ 375 ∷ 464 ∷ 562 ∷ 586 ∷ 610 ∷ 375 ∷ 464 ∷ 562 ∷ 586 ∷ 610 ∷ 634 ∷ 1 ∷ 0 ∷ 0 ∷ 0 ∷ 0 ∷ 0 ∷ 0 ∷ 0 ∷ 0 ∷ 0 ∷ 0 ∷ 0 ∷ 0 ∷ 0 ∷ 0 ∷ 0 ∷ 0 ∷ 0 ∷ 0 ∷ 0 ∷ 0 ∷ 0 ∷ 0 ∷ 0 ∷ 0 ∷ 0 ∷ 0 ∷ 0 ∷ 0 ∷ 0 ∷ 0 ∷ 0 ∷ 0 ∷ 0 ∷ 0 ∷ 0 ∷ 0 ∷ 0 ∷ 0 ∷ 0 ∷ 0 ∷ 0 ∷ 0 ∷ [])
+    × (listing 1820 off-and-on ≡ 193 ∷ 484 ∷ 1316331983646767939 ∷ 0 ∷ 128 ∷ 8 ∷ 2 ∷ 0 ∷ 0 ∷ 5 ∷ 67 ∷ 268 ∷ 392 ∷ 424 ∷ 444 ∷ 464 ∷ 268 ∷ 392 ∷ 424 ∷ 444 ∷ 464 ∷ 484 ∷ 1 ∷ 0 ∷ 0 ∷ 0 ∷ 0 ∷ 0 ∷ 0 ∷ 0 ∷ 0 ∷ 0 ∷ 0 ∷ 0 ∷ 0 ∷ 0 ∷ 0 ∷ 0 ∷ 0 ∷ 0 ∷ 0 ∷ 0 ∷ 0 ∷ 0 ∷ 0 ∷ 0 ∷ 0 ∷ 0 ∷ 0 ∷ 0 ∷ 0 ∷ 0 ∷ 0 ∷ 0 ∷ 0 ∷ 0 ∷ 0 ∷ 0 ∷ 0 ∷ 0 ∷ 0 ∷ 0 ∷ 0 ∷ 0 ∷ 0 ∷ [])
+    × (listing 1820 a-block-late ≡ 176 ∷ 396 ∷ 804892608931913972 ∷ 0 ∷ 128 ∷ 8 ∷ 2 ∷ 0 ∷ 0 ∷ 6 ∷ 67 ∷ 276 ∷ 316 ∷ 336 ∷ 356 ∷ 376 ∷ 276 ∷ 316 ∷ 336 ∷ 356 ∷ 376 ∷ 396 ∷ 0 ∷ 0 ∷ 0 ∷ 0 ∷ 0 ∷ 0 ∷ 0 ∷ 0 ∷ 0 ∷ 0 ∷ 0 ∷ 0 ∷ 0 ∷ 0 ∷ 0 ∷ 0 ∷ 0 ∷ 0 ∷ 0 ∷ 0 ∷ 0 ∷ 0 ∷ 0 ∷ 0 ∷ 0 ∷ 0 ∷ 0 ∷ 0 ∷ 0 ∷ 0 ∷ 0 ∷ 0 ∷ 0 ∷ 0 ∷ 0 ∷ 0 ∷ 0 ∷ 0 ∷ 0 ∷ 0 ∷ 0 ∷ 0 ∷ 0 ∷ [])
+    × (listing 1820 programmes-coupled ≡ 174 ∷ 397 ∷ 1943488180946144133 ∷ 0 ∷ 128 ∷ 8 ∷ 0 ∷ 0 ∷ 0 ∷ 6 ∷ 73 ∷ 297 ∷ 317 ∷ 337 ∷ 357 ∷ 377 ∷ 297 ∷ 317 ∷ 337 ∷ 357 ∷ 377 ∷ 397 ∷ 1 ∷ 0 ∷ 0 ∷ 0 ∷ 0 ∷ 0 ∷ 0 ∷ 0 ∷ 0 ∷ 0 ∷ 0 ∷ 0 ∷ 0 ∷ 0 ∷ 0 ∷ 0 ∷ 0 ∷ 0 ∷ 0 ∷ 0 ∷ 0 ∷ 0 ∷ 0 ∷ 0 ∷ 0 ∷ 0 ∷ 0 ∷ 0 ∷ 0 ∷ 0 ∷ 0 ∷ 0 ∷ 0 ∷ 0 ∷ 0 ∷ 0 ∷ 0 ∷ 0 ∷ 0 ∷ 0 ∷ 0 ∷ 0 ∷ 0 ∷ [])
+unfolding bitAt value bitsBefore sameBits rangeEq _>>=_ turns shown except exec andThen flatten landing finish roomCheck check sum unless run continue nfchans words48 words44 words32 frameBytes slowDecay fastDecay slowGain knee floor fastGain bandEnd logAdd hearing bap hebap bapBits vqBits gaqBits from placed snrOffset psdOf mappedPsd logadd bandSum bandOf startOf endOf bandPsd integratedPsd lowcomp lowAfter rises startLeak fallTo fallBy fallLeak leakStep excitations excitation overKnee maskOf maskingCurve deltaOf passed deltaIn deltaSum deltaApplied kept threshold thresholds addressOf bapOf Allocation-pointers allocationBy deltaCode channelCode segment newDeltas slotDeltas codedDeltas deltas newCurve curve fineOffset channelOffset newOffsets offsets newLeak couplingLeak step unpack group exponentSet slotExponents channelExponents exponents silent Mantissas-pointers allPointers widths bitsIn bySlot mantissas channelParts parts syncinfo programmeInfo alternateInfo timeCodes additionalInfo bsi header howMany coupledChannels joined couplingBands newCoupling couplingStrategy coordinate channelCoordinates phaseFlags couplingCoordinates rematrixing channelStrategies exponentStrategies bandwidth bandwidths channelEnd channelEnds channelFlags dynamicRange channelSettings couplingSection exponentSection skipField allocState audioBlock audio syncframe answered bytes plusOne checksum verdict short every some coordinatesSent
 accepted = (refl, refl, refl, refl, refl, refl, refl, refl, refl, refl, refl, refl, refl, refl, refl, refl, refl, refl, refl, refl, refl, refl, refl, refl, refl, refl, refl, refl, refl, refl)
 
 refused :
@@ -484,5 +484,5 @@ refused :
     × (listing 1820 refusal-21 ≡ 26 ∷ 75 ∷ 1681950038189532974 ∷ 21 ∷ 0 ∷ 0 ∷ [])
     × (listing 1820 refusal-22 ≡ 33 ∷ 127 ∷ 1780880590504274166 ∷ 22 ∷ 0 ∷ 0 ∷ [])
     × (listing 1820 refusal-23 ≡ 40 ∷ 146 ∷ 2001894335952279341 ∷ 23 ∷ 0 ∷ 0 ∷ [])
-unfolding bitAt value bitsBefore sameBits rangeEq _>>=_ turns shown except exec andThen flatten landing finish roomCheck check sum unless run continue nfchans words48 words44 words32 frameBytes slowDecay fastDecay slowGain knee floor fastGain bandEnd logAdd hearing bap hebap bapBits vqBits gaqBits from placed snrOffset psdOf mappedPsd logadd bandSum bandOf startOf endOf bandPsd integratedPsd lowcomp lowAfter rises startLeak fallTo fallBy fallLeak leakStep excitations excitation overKnee maskOf maskingCurve deltaOf passed deltaIn deltaSum deltaApplied kept threshold thresholds addressOf bapOf Allocation-pointers allocationBy deltaCode channelCode segment newDeltas slotDeltas codedDeltas deltas newCurve curve fineOffset channelOffset newOffsets offsets newLeak couplingLeak step unpack group exponentSet slotExponents channelExponents exponents silent Mantissas-pointers allPointers widths mantissas channelParts parts syncinfo programmeInfo alternateInfo timeCodes additionalInfo bsi header howMany coupledChannels joined couplingBands newCoupling couplingStrategy coordinate channelCoordinates phaseFlags couplingCoordinates rematrixing channelStrategies exponentStrategies bandwidth bandwidths channelEnd channelEnds channelFlags dynamicRange channelSettings couplingSection exponentSection skipField allocState audioBlock audio syncframe answered bytes plusOne checksum verdict short every some coordinatesSent
+unfolding bitAt value bitsBefore sameBits rangeEq _>>=_ turns shown except exec andThen flatten landing finish roomCheck check sum unless run continue nfchans words48 words44 words32 frameBytes slowDecay fastDecay slowGain knee floor fastGain bandEnd logAdd hearing bap hebap bapBits vqBits gaqBits from placed snrOffset psdOf mappedPsd logadd bandSum bandOf startOf endOf bandPsd integratedPsd lowcomp lowAfter rises startLeak fallTo fallBy fallLeak leakStep excitations excitation overKnee maskOf maskingCurve deltaOf passed deltaIn deltaSum deltaApplied kept threshold thresholds addressOf bapOf Allocation-pointers allocationBy deltaCode channelCode segment newDeltas slotDeltas codedDeltas deltas newCurve curve fineOffset channelOffset newOffsets offsets newLeak couplingLeak step unpack group exponentSet slotExponents channelExponents exponents silent Mantissas-pointers allPointers widths bitsIn bySlot mantissas channelParts parts syncinfo programmeInfo alternateInfo timeCodes additionalInfo bsi header howMany coupledChannels joined couplingBands newCoupling couplingStrategy coordinate channelCoordinates phaseFlags couplingCoordinates rematrixing channelStrategies exponentStrategies bandwidth bandwidths channelEnd channelEnds channelFlags dynamicRange channelSettings couplingSection exponentSection skipField allocState audioBlock audio syncframe answered bytes plusOne checksum verdict short every some coordinatesSent
 refused = (refl, refl, refl, refl, refl, refl, refl, refl, refl, refl, refl, refl, refl, refl, refl, refl, refl, refl, refl, refl, refl, refl, refl, refl, refl, refl, refl, refl, refl, refl, refl, refl)

@@ -4,6 +4,7 @@ use mathlib.Core.List.{List, [], _∷_, _++_}
 use Prim.Native.Nat.{ℕ, _+_, _*_}
 use lib.IntN.{ℤ}
 use lib.ListN.{set}
+use lib.Seq.{sets}
 use Rattle.tables.specs.Tables.{nfchans}
 use Rattle.syntax.specs.declared.Role.the-variants.{DynrngExists, Dynrng, Skiple, Skipl, Skipfld}
 use Rattle.syntax.specs.Grammar.{Grammar, done, _>>=_, _>>_, nth, oneRoled, take, flag, note, pass, position, when, each}
@@ -16,7 +17,7 @@ use Rattle.slots.specs.declared.Strategies.{Strategies}
 use Rattle.parameters.specs.Delta.{deltas}
 use Rattle.parameters.specs.Parameters.{curve, offsets, couplingLeak}
 use Rattle.exponents.specs.Exponents.{Exponents, exponents}
-use Rattle.mantissas.specs.Mantissas.{mantissas}
+use Rattle.mantissas.specs.Mantissas.{Walked, mantissas}
 use Rattle.channels.specs.Coupling.{couplingStrategy, couplingCoordinates, rematrixing}
 use Rattle.channels.specs.Strategies.{exponentStrategies, bandwidths, channelEnds}
 use Rattle.channels.specs.declared.Bandwidths.{Bandwidths}
@@ -96,13 +97,14 @@ allocState blk nfchans cplinu lfeon old = do
   done (record { curve = curve; offsets = offsets; leak = leak; deltas = deltas })
 
 -- one block more in the tally, with which coordinates are sent so far or not
-abbrev pub counted : (blk start mantissas : ℕ) (cplinu sent : Bool) → Tally → Tally
-counted blk start mantissas cplinu sent t =
+abbrev pub counted : (blk start : ℕ) → Walked → (cplinu sent : Bool) → Tally → Tally
+counted blk start w cplinu sent t =
     record {
       coupled = cond cplinu (t .coupled + 1) (t .coupled);
       coordinates = sent;
       starts = set (t .starts) blk start;
-      mantissas = set (t .mantissas) blk mantissas;
+      mantissas = set (t .mantissas) blk (w .start);
+      bits = sets (t .bits) (7 * blk) (w .bits);
     }
 
 unfoldable pub audioBlock : Header → (blk : ℕ) → Carry → Grammar Carry
@@ -116,11 +118,11 @@ audioBlock h blk before = do
   x ← exponentSection blk h c (old .bandwidths) (record { cover = old .cover; exps = before .exps })
   alloc ← allocState blk channels (c .cplinu) (h .lfeon) (old .alloc)
   skipField blk
-  mantissas ← mantissas blk (h .fscod) channels (h .lfeon) c (x .ends) alloc (x .exponents .exps)
+  walked ← mantissas blk (h .fscod) channels (h .lfeon) c (x .ends) alloc (x .exponents .exps)
   let blocks = before .blocks ++ record { chincpl = c .chincpl; cplcoe = cpl .cplcoe } ∷ []
   done (record {
     state = record { coupling = c; bandwidths = x .bandwidths; cover = x .exponents .cover; alloc = alloc };
     exps = x .exponents .exps;
-    tally = counted blk start mantissas (c .cplinu) (coordinatesSent blocks) (before .tally);
+    tally = counted blk start walked (c .cplinu) (coordinatesSent blocks) (before .tally);
     blocks = blocks;
   })

@@ -17,7 +17,7 @@ use Rattle.ac3.specs.declared.Tally.{Tally}
 
 -- the same with this flag: of a tally, of what is carried, and of an answer
 abbrev pub flagged : Bool → Tally → Tally
-flagged b t = record { coupled = t .coupled; coordinates = b; starts = t .starts; mantissas = t .mantissas }
+flagged b t = record { coupled = t .coupled; coordinates = b; starts = t .starts; mantissas = t .mantissas; bits = t .bits }
 
 abbrev pub flaggedCarry : Bool → Carry → Carry
 flaggedCarry b c = record { state = c .state; exps = c .exps; tally = flagged b (c .tally); blocks = c .blocks }

@@ -32,9 +32,13 @@ unsent =
       };
     }
 
+-- so many are the counts of mantissa bits: seven slots in each of six blocks
+abbrev pub slotCounts : ℕ
+slotCounts = 42
+
 -- "coordinates sent" is yes until a block says otherwise
 abbrev pub uncounted : Tally
-uncounted = record { coupled = 0; coordinates = true; starts = replicate 6 0; mantissas = replicate 6 0 }
+uncounted = record { coupled = 0; coordinates = true; starts = replicate 6 0; mantissas = replicate 6 0; bits = replicate slotCounts 0 }
 
 abbrev pub unread : Carry
 unread = record { state = unsent; exps = replicate 7 (replicate 256 (pos 0)); tally = uncounted; blocks = [] }
@@ -68,7 +72,7 @@ noSummary =
       rows = 0;
       end = 0;
       header = record { bytes = 0; fscod = 0; bsid = 0; acmod = 0; lfeon = false };
-      tally = record { coupled = 0; coordinates = false; starts = replicate 6 0; mantissas = replicate 6 0 };
+      tally = record { coupled = 0; coordinates = false; starts = replicate 6 0; mantissas = replicate 6 0; bits = replicate slotCounts 0 };
     }
 
 -- a refusal is told by its three numbers, and of what is accepted those of `going`

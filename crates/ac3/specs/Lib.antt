@@ -19,6 +19,7 @@ pub mod Editing
 pub mod Apart
 pub mod Later
 pub mod HeaderAndBlocks
+pub mod SlotBits
 pub mod Sound
 pub mod Tallied
 pub mod Listing

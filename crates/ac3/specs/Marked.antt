@@ -1,6 +1,7 @@
 -- No part of the definition: what can be said of a grammar by looking through it, and words for it that statements use. Exactly the
 -- editable names are read as values that steer nothing, of 1 to 16 bits, exactly the spans as spans, by name and by role, and every refusal
--- has one of the twenty-three numbers, and tells no name and no block unless it is 6, which is not the grammar's to give.
+-- has one of the twenty-three numbers, and tells no name and no block unless it is 6, which is not the grammar's to give. The mantissas are
+-- walked, and where nothing is walked there are none.
 use mathlib.Core.Bool.{Bool, true, false, not, _&&_, _||_}
 use mathlib.Core.List.{List, [], _∷_}
 use Prim.Native.Nat.{ℕ}
@@ -10,6 +11,7 @@ use Rattle.syntax.specs.declared.Refusal.{Refusal}
 use Rattle.syntax.specs.declared.Role.{Role}
 use Rattle.syntax.specs.Grammar.{Grammar, done, refuse, field, free, span, walk, frame, here}
 use Rattle.syntax.specs.Run.{Kind, steering, unsteering, spanning, Row, Check, clear, stop, End, reached, refused}
+use Rattle.syntax.specs.Names as Name
 use Rattle.syntax.specs.Names.{editable, spans}
 use Rattle.syntax.specs.Numbers.{roleNumbers}
 use Rattle.syntax.specs.Unfitting.{isJudged}
@@ -63,13 +65,14 @@ abbrev pub EndFits : {A : Type 0} → End A → Type 0
 EndFits (reached a) = Unit {0}
 EndFits (refused x) = T (numberFits (x .number))
 
--- every field that the grammar can meet is of its name's and its role's kind, and every refusal is numbered and judged
-pub data Marked {A : Type 0} : Grammar A → Type 0 where
-  m-done : {a : A} → Marked (done a)
-  m-refuse : {x : Refusal} → T (numberFits (x .number)) → T (isJudged x) → Marked (refuse x)
-  m-field : {i : Item} {w : ℕ} {k : ℕ → Grammar A} → T (kindFits steering (i .name)) → T (roleFits steering (i .role)) → ((v : ℕ) → Marked (k v)) → Marked (field i w k)
-  m-free : {i : Item} {w : ℕ} {k : Grammar A} → T (kindFits unsteering (i .name)) → T (roleFits unsteering (i .role)) → T (widthFits unsteering w) → Marked k → Marked (free i w k)
-  m-span : {i : Item} {w : ℕ} {k : Grammar A} → T (kindFits spanning (i .name)) → T (roleFits spanning (i .role)) → Marked k → Marked (span i w k)
-  m-walk : {i : Item} {ws : List ℕ} {k : Grammar A} → T (kindFits spanning (i .name)) → T (roleFits spanning (i .role)) → Marked k → Marked (walk i ws k)
-  m-frame : {x : Refusal} {n : ℕ} {k : Grammar A} → T (numberFits (x .number)) → T (isJudged x) → Marked k → Marked (frame x n k)
-  m-here : {k : ℕ → Grammar A} → ((at : ℕ) → Marked (k at)) → Marked (here k)
+-- every field that the grammar can meet is of its name's and its role's kind, and every refusal is numbered and judged; and whether anything
+-- may be walked
+pub data Marked {A : Type 0} (walks : Bool) : Grammar A → Type 0 where
+  m-done : {a : A} → Marked walks (done a)
+  m-refuse : {x : Refusal} → T (numberFits (x .number)) → T (isJudged x) → Marked walks (refuse x)
+  m-field : {i : Item} {w : ℕ} {k : ℕ → Grammar A} → T (kindFits steering (i .name)) → T (roleFits steering (i .role)) → ((v : ℕ) → Marked walks (k v)) → Marked walks (field i w k)
+  m-free : {i : Item} {w : ℕ} {k : Grammar A} → T (kindFits unsteering (i .name)) → T (roleFits unsteering (i .role)) → T (widthFits unsteering w) → Marked walks k → Marked walks (free i w k)
+  m-span : {i : Item} {w : ℕ} {k : Grammar A} → T (kindFits spanning (i .name)) → T (not (eqb (i .name) Name.mantissas)) → T (roleFits spanning (i .role)) → Marked walks k → Marked walks (span i w k)
+  m-walk : {i : Item} {ws : List ℕ} {k : Grammar A} → T walks → T (kindFits spanning (i .name)) → T (roleFits spanning (i .role)) → Marked walks k → Marked walks (walk i ws k)
+  m-frame : {x : Refusal} {n : ℕ} {k : Grammar A} → T (numberFits (x .number)) → T (isJudged x) → Marked walks k → Marked walks (frame x n k)
+  m-here : {k : ℕ → Grammar A} → ((at : ℕ) → Marked walks (k at)) → Marked walks (here k)

@@ -19,6 +19,7 @@ use Rattle.ac3.specs.Promise.{Call, Promised, listed, bitOf, answerTo, A
 use Rattle.ac3.specs.Rooms.{SpansByRole, Demand3OfRooms}
 use Rattle.ac3.specs.RowBound.{RowBound}
 use Rattle.ac3.specs.Sent.{SentIsEachHad}
+use Rattle.ac3.specs.SlotBits.{SlotBits}
 use Rattle.ac3.specs.Unfitting.{WhatDidNotFit}
 use Rattle.ac3.specs.Useless.{NoneUseless}
 use Rattle.ac3.specs.Values.{ValuesOnEachSide}
@@ -50,6 +51,9 @@ pub record Proved : Type 1 where
   pub spans-by-role : SpansByRole
   -- Demand 3 holds of the grammar itself, as of every grammar.
   pub demand3-grammar : Demand3 syncframe
+  -- Its mantissas rows, one to a block, are as wide as the seven counts of bits that the summary tells of the block sum to; slots that are not
+  -- in use have 0, and so have all on a refusal.
+  pub slot-bits : SlotBits
   -- ---- what may change, and what cannot
 
   -- New bits in the editable fields and in spans change those values, and nothing else.

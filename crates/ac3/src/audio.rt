@@ -1,4 +1,5 @@
 // The six blocks of a frame.
+use crate::SLOT_COUNTS;
 use crate::State;
 use crate::Tally;
 use crate::block::audio_block;
@@ -73,6 +74,7 @@ fn uncounted() -> Tally
         coordinates: true,
         starts: [0; 6],
         mantissas: [0; 6],
+        bits: [0; SLOT_COUNTS],
     }
 }
 

@@ -1,4 +1,5 @@
 // audblk (4.3.3): the sections of a block in the order of the syntax table.
+use crate::SLOT_COUNTS;
 use crate::State;
 use crate::Tally;
 use channels::Bandwidths;
@@ -36,12 +37,13 @@ use tables::nfchans;
 ghost use mathlib.Core.Bool.{false, cond, _&&_, _||_};
 ghost use mathlib.Core.List.{List, [], _∷_, _++_};
 ghost use mathlib.Core.Path.{_≡_};
-ghost use Prim.Native.Nat.{ℕ, _+_, _<_, _≤_};
+ghost use Prim.Native.Nat.{ℕ, _+_, _*_, _<_, _≤_};
 ghost use Rattle.syntax.specs.Grammar as syntax;
 ghost use Rattle.syntax.specs.Reads.{Reads};
 ghost use Rattle.header.specs.Header as header;
 ghost use Rattle.header.specs.Sound.{SoundHeader};
 ghost use lib.ListN.{getD};
+ghost use lib.Seq.{sets};
 ghost use Rattle.slots.specs.Sound.{SoundAlloc, SoundCoupling, SoundEnds, SoundExps};
 ghost use Rattle.slots.specs.Reused.{Keeps, ReusedBy};
 ghost use Rattle.channels.specs.Sound.{SoundBands, SoundBandwidths};
@@ -137,9 +139,30 @@ fn one_more_if(count: u8, more: bool) -> u8
     if more { count + 1 } else { count }
 }
 
-fn counted(blk: u8, start: u16, mantissas: u16, cplinu: bool, sent: bool, t: Tally) -> Tally
+// The counts of a block's slots in their place among those of all blocks.
+fn with_block(all: [u16; SLOT_COUNTS], blk: u8, bits: [u16; 7]) -> [u16; SLOT_COUNTS]
+    requires { ⌜ blk < 6 ⌝ }
+    ensures { λ r. ⌜ r ≡ sets all (7 * blk) bits ⌝ }
+{
+    let first = 7 * blk as usize;
+    let mut counts = all;
+    for slot in 0..7 {
+        counts[first + slot] = bits[slot];
+    }
+    counts
+}
+
+fn counted(
+    blk: u8,
+    start: u16,
+    mantissas: u16,
+    bits: [u16; 7],
+    cplinu: bool,
+    sent: bool,
+    t: Tally,
+) -> Tally
     requires { ⌜ (blk < 6) × (t .coupled ≤ blk) ⌝ }
-    ensures { λ r. ⌜ r ≡ grammar.counted blk start mantissas cplinu sent t ⌝ }
+    ensures { λ r. ⌜ r ≡ grammar.counted blk start (record { start = mantissas; bits = bits }) cplinu sent t ⌝ }
     ensures { λ r. ⌜ r .coupled ≤ blk + 1 ⌝ }
 {
     let at = blk as usize;
@@ -147,11 +170,14 @@ fn counted(blk: u8, start: u16, mantissas: u16, cplinu: bool, sent: bool, t: Tal
     let mut mantissa_starts = t.mantissas;
     starts[at] = start;
     mantissa_starts[at] = mantissas;
+    let all = t.bits;
+    let bits = with_block(all, blk, bits);
     Tally {
         coupled: one_more_if(t.coupled, cplinu),
         coordinates: sent,
         starts,
         mantissas: mantissa_starts,
+        bits,
     }
 }
 
@@ -380,12 +406,13 @@ pub fn audio_block(
         ends,
     };
     let mant = mantissas(rows, at, block, alloc, exps, memos);
+    let bits = mant.bits;
     let cursor = mant.cursor;
     let chincpl = coupling.chincpl;
     let cplcoe = coupled.cplcoe;
     let had = had_by_now(had, chincpl, cplcoe);
     let sent = sent_so_far(tally.coordinates, chincpl, had);
-    let tally = counted(blk, start, mant.start, cplinu, sent, tally);
+    let tally = counted(blk, start, mant.start, bits, cplinu, sent, tally);
     BlockRead {
         state: State {
             coupling,

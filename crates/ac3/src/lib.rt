@@ -33,12 +33,17 @@ pub struct State {
     pub alloc: AllocState,
 }
 
-// What the summary tells of the blocks: how many use coupling, whether coordinates were sent, where blocks and mantissas start.
+// The counts of mantissa bits: seven slots in each of six blocks.
+pub const SLOT_COUNTS: usize = 42;
+
+// What the summary tells of the blocks: how many use coupling, whether coordinates were sent, where blocks and mantissas start, and the
+// mantissa bits of each slot, those of block 0 first.
 pub struct Tally {
     pub coupled: u8,
     pub coordinates: bool,
     pub starts: [u16; 6],
     pub mantissas: [u16; 6],
+    pub bits: [u16; SLOT_COUNTS],
 }
 
 // An accepted frame's summary; its end is audio_end.
@@ -96,6 +101,7 @@ fn refused(c: Cursor) -> Answer
                 coordinates: false,
                 starts: [0; 6],
                 mantissas: [0; 6],
+                bits: [0; SLOT_COUNTS],
             },
         },
     }

@@ -11,11 +11,13 @@ use lib.IntN.{ℤ, pos, negsuc}
 use lib.ListN.{length, getD, drop}
 use lib.Seq.{drop-cons}
 use borrow.Author.Tests.{eqb-true, eqb-false, eq-eqb, ne-eqb}
+use Rattle.alloc.specs.Allocation.{from}
 use Rattle.signed.specs.Level.{eqZ}
 use Rattle.signed.proofs.Equal.{eqZ-yes, eqZ-no}
 use Rattle.syntax.specs.Numbers.{shown}
 use Rattle.header.specs.declared.Header.{Header}
 use Rattle.ac3.specs.Apart.{headerTo, sameAnswer, fits, unfit, afreshIf, blocksTo, endedAt, inTurn}
+use Rattle.ac3.specs.Frame.{slotCounts}
 use Rattle.ac3.specs.Later.{AlikeBefore}
 use Rattle.ac3.specs.Promise.{Call, withRoom, answerTo}
 use Rattle.ac3.specs.RowBound.{mostRows}
@@ -26,9 +28,9 @@ use Rattle.ac3.proofs.Promise.{promised}
 use Rattle.ac3.proofs.Within.{kept-within}
 use Rattle.ferrysprig.specs.Apart.{headerNumbers, headerTold, sameNumbers, takenBy, blocksHeld}
 use Rattle.ferrysprig.specs.HeaderAndBlocks.{endedNumbers, inTurnHeld, HeaderAndBlocksHeld}
-use Rattle.ferrysprig.specs.Numbers.{flag, inOrder, answerNumbers, told}
+use Rattle.ferrysprig.specs.Numbers.{flag, inOrder, bitsInOrder, bitsNumbers, answerNumbers, told}
 use Rattle.ferrysprig.specs.Promise.{refusalIn, bitIn, PromisedNumbers}
-use Rattle.ferrysprig.proofs.Promise.{promised-numbers}
+use Rattle.ferrysprig.proofs.Promise.{long-told, promised-numbers}
 
 -- ---- numbers
 
@@ -197,7 +199,7 @@ module _ (c : Call) where
 -- ---- both in turn
 
 ended-told : (h : HeaderAnswer) → answerNumbers (endedAt h) ≡ endedNumbers (headerNumbers h)
-unfolding answerNumbers inOrder headerNumbers
+unfolding answerNumbers inOrder bitsNumbers bitsInOrder from headerNumbers
 ended-told h = refl
 
 in-turn-held : (c : Call) → told (answerTo c) ≡ inTurnHeld c
@@ -218,12 +220,15 @@ in-turn-promised c =
     subst (λ (x : List ℤ × List ℤ). PromisedNumbers c (x .0) (x .1)) (in-turn-held c) (promised-numbers kept (kept-within c _ _ kept) refl)
 
 -- few rows, so that the numbers fit
-pub few-afresh : (b : Bool) (c : Call) {x : Answer × List ℤ} → x ≡ afreshIf b c → (x .0 .rows ≤ mostRows) × (x .0 .summary .rows ≤ mostRows)
-few-afresh b c {x} e = subst (λ (x : Answer × List ℤ). (x .0 .rows ≤ mostRows) × (x .0 .summary .rows ≤ mostRows)) (sym (e ∙ afresh-is b c)) (go b)
+abbrev Fits : Answer × List ℤ → Type 0
+Fits x = ((x .0 .rows ≤ mostRows) × (x .0 .summary .rows ≤ mostRows)) × (length (x .0 .summary .tally .bits) ≡ slotCounts)
+
+pub few-afresh : (b : Bool) (c : Call) {x : Answer × List ℤ} → x ≡ afreshIf b c → Fits x
+few-afresh b c {x} e = subst Fits (sym (e ∙ afresh-is b c)) (go b)
   where
-    go : (b : Bool) → let x = cond b (answerTo c) (unfit, c .room) in (x .0 .rows ≤ mostRows) × (x .0 .summary .rows ≤ mostRows)
-    go true = let within = kept-within c _ _ (promised c refl) in (within .few, omega (arith, within .few, within .told))
-    go false = (omega arith, omega arith)
+    go : (b : Bool) → Fits (cond b (answerTo c) (unfit, c .room))
+    go true = let within = kept-within c _ _ (promised c refl) in ((within .few, omega (arith, within .few, within .told)), long-told c refl)
+    go false = ((omega arith, omega arith), refl)
 
 pub header-and-blocks-held : HeaderAndBlocksHeld
 header-and-blocks-held =

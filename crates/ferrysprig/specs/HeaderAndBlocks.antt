@@ -8,6 +8,7 @@ use lib.IntN.{ℤ, pos}
 use lib.ListN.{getD, replicate}
 use Rattle.signed.specs.Level.{eqZ}
 use Rattle.ac3.specs.Apart.{headerTo, unfit, blocksTo}
+use Rattle.ac3.specs.Frame.{slotCounts}
 use Rattle.ac3.specs.Later.{AlikeBefore}
 use Rattle.ac3.specs.Promise.{Call, withRoom, answerTo}
 use Rattle.ac3.specs.declared.HeaderAnswer.{HeaderAnswer}
@@ -17,9 +18,9 @@ use Rattle.ferrysprig.specs.Promise.{refusalIn, bitIn, PromisedNumbers}
 
 -- ---- both in turn
 
--- what is told of a frame that ended with its header: refusal, rows and bit, a summary of zeros, name and block
+-- what is told of a frame that ended with its header: refusal, rows and bit, name and block, and a summary of zeros
 abbrev pub endedNumbers : List ℤ → List ℤ
-endedNumbers ten = getD ten 0 (pos 0) ∷ getD ten 1 (pos 0) ∷ getD ten 2 (pos 0) ∷ replicate 21 (pos 0) ++ getD ten 3 (pos 0) ∷ getD ten 4 (pos 0) ∷ []
+endedNumbers ten = getD ten 0 (pos 0) ∷ getD ten 1 (pos 0) ∷ getD ten 2 (pos 0) ∷ replicate 21 (pos 0) ++ getD ten 3 (pos 0) ∷ getD ten 4 (pos 0) ∷ replicate slotCounts (pos 0)
 
 -- the blocks go by the header's ten numbers, in the room that it leaves; a header refusal ends it
 unfoldable pub inTurnHeld : Call → List ℤ × List ℤ

@@ -3,6 +3,7 @@ mod apart;
 mod packing;
 
 use ac3::Answer;
+use ac3::SLOT_COUNTS;
 use apart::HEADER_ANSWER;
 use apart::are_taken;
 use apart::header_numbers;
@@ -10,9 +11,11 @@ use profile::numbers_of;
 use syntax::rows::shown;
 ghost use mathlib.Core.Path.{_≡_};
 ghost use Prim.Native.Nat.{_≤_};
+ghost use lib.ListN.{length};
 ghost use Rattle.bits.specs.Bits.{rangeEq};
 ghost use Rattle.syntax.specs.Names as Name;
 ghost use Rattle.ac3.specs.Frame as frame;
+ghost use Rattle.ac3.specs.Frame.{slotCounts};
 ghost use Rattle.ac3.specs.Promise.{call};
 ghost use Rattle.ac3.specs.RowBound.{mostRows};
 ghost use Rattle.ac3.specs.Marked.{among};
@@ -32,11 +35,13 @@ ghost use Rattle.ferrysprig.specs.Profiles.{profileInOrder, profileNumbe
 ghost use Rattle.ferrysprig.specs.Promise.{PromisedNumbers};
 ghost use Rattle.ferrysprig.specs.Salvages.{salvageNumbers, salvageTold};
 
-// The numbers of an answer, and of those about a burst, a salvage, the profile and a level. The block of what did not fit stands after those that are
-// never negative.
-pub const ANSWER: usize = BLOCK + 1;
+// The numbers of an answer, and of those about a burst, a salvage, the profile and a level. The block of what did not fit, which alone may be
+// negative, stands before the mantissa bits.
+pub const ANSWER: usize = BITS + SLOT_COUNTS;
 
 const BLOCK: usize = 25;
+
+const BITS: usize = BLOCK + 1;
 
 pub const BURST_ANSWER: usize = 3;
 
@@ -52,7 +57,7 @@ fn flag(b: bool) -> u16
     if b { 1 } else { 0 }
 }
 
-// The numbers of an answer in their order, but for the block. None is large: no frame has more than 4,067 rows.
+// The numbers of an answer in their order, as far as the block. None is large: no frame has more than 4,067 rows.
 fn in_order(a: Answer) -> [u16; BLOCK]
     requires { ⌜ (a .rows ≤ mostRows) × (a .summary .rows ≤ mostRows) ⌝ }
     ensures { λ r. ⌜ r ≡ inOrder a ⌝ }
@@ -94,12 +99,17 @@ fn in_order(a: Answer) -> [u16; BLOCK]
 // All of them as the caller reads them.
 fn numbers(a: Answer) -> [i32; ANSWER]
     requires { ⌜ (a .rows ≤ mostRows) × (a .summary .rows ≤ mostRows) ⌝ }
+    requires { ⌜ length (a .summary .tally .bits) ≡ slotCounts ⌝ }
     ensures { λ r. ⌜ r ≡ answerNumbers a ⌝ }
 {
     let small = in_order(a);
     let mut out = [0i32; ANSWER];
     writer::numbers(&small, &mut out);
     out[BLOCK] = shown(a.block);
+    let summary = a.summary;
+    let tally = summary.tally;
+    let bits = tally.bits;
+    writer::numbers(&bits, &mut out[BITS..]);
     out
 }
 

@@ -3,7 +3,7 @@
 use mathlib.Core.Bool.{Bool, true, false, cond}
 use mathlib.Core.List.{List, [], _∷_, _++_}
 use mathlib.Core.Path.{_≡_, refl, ap, sym, _∙_}
-use Prim.Native.Nat.{ℕ, zero, suc, _+_, _-_, _*_, _/_, _%_, _≤_}
+use Prim.Native.Nat.{ℕ, zero, suc, _+_, _-_, _*_, _/_, _%_, _≤_, _<_}
 use native.Mathlib.Nat.{mod-add-mod, zero-add, add-zero, add-suc, suc-add, add-assoc}
 use native.Mathlib.Omega.{arith}
 use lib.Dec.{eqb}
@@ -188,3 +188,12 @@ silent-counts (suc n) = silent-counts n
 pub plus-at-most : {i j k : ℕ} {a b : Counts} → AtMost i a → AtMost j b → i + j ≤ k → AtMost k (plus a b)
 plus-at-most f g h =
     record { bits = omega (arith, f .bits, g .bits); ones = omega (arith, f .ones, g .ones); twos = omega (arith, f .twos, g .twos); fours = omega (arith, f .fours, g .fours) }
+
+-- the bits of no mantissas, and of a block's
+pub no-width : 0 ≡ widthOf noCounts
+unfolding widthOf
+no-width = refl
+
+pub width-few : {n : Counts} → AtMost (7 * 253) n → widthOf n < 65536
+unfolding widthOf
+width-few h = omega (arith, h .bits, h .ones, h .twos, h .fours)

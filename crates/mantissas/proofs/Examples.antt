@@ -7,9 +7,8 @@ use Rattle.syntax.specs.Run.{sum}
 use Rattle.slots.specs.Slots.{CPL, LFE}
 use Rattle.slots.specs.declared.Coupling.{Coupling}
 use Rattle.alloc.specs.Allocation.{from}
-use Rattle.mantissas.specs.BySlot.{bySlot, bitsIn}
 use Rattle.mantissas.specs.Parts.{part, channelParts, parts}
-use Rattle.mantissas.specs.Mantissas.{widths, noneOpen}
+use Rattle.mantissas.specs.Mantissas.{widths, noneOpen, bitsIn, bySlot}
 
 -- channels 1 and 2 of three are coupled from bin 97 up to bin 108
 coupling : Coupling
@@ -31,3 +30,8 @@ one-group = refl
 shared : bySlot (part 0 0 3 ∷ part 1 0 3 ∷ []) (widths noneOpen (1 ∷ 1 ∷ 4 ∷ 1 ∷ 4 ∷ 4 ∷ [])) ≡ 12 ∷ 7 ∷ 0 ∷ 0 ∷ 0 ∷ 0 ∷ 0 ∷ []
 unfolding bySlot bitsIn from sum widths
 shared = refl
+
+-- coupling and LFE have nothing but members of groups that channel 0 began: no bits
+begun-elsewhere : bySlot (part 0 0 3 ∷ part CPL 37 39 ∷ part LFE 0 1 ∷ []) (widths noneOpen (1 ∷ 2 ∷ 4 ∷ 1 ∷ 2 ∷ 4 ∷ [])) ≡ 19 ∷ 0 ∷ 0 ∷ 0 ∷ 0 ∷ 0 ∷ 0 ∷ []
+unfolding bySlot bitsIn from sum widths
+begun-elsewhere = refl

@@ -1,13 +1,12 @@
--- Mantissa bits by channel: the bits that each slot's mantissas take. The widths that the walk goes by are one list; cut where the slots' bins end, each
--- piece is a slot's, so that the bits of a group count to the slot of its first member. `proofs/BySlot.antt` proves `BitsBySlot`.
+-- Mantissa bits by channel: what holds of the bits that the slots of a block take, and how they follow from counts. `proofs/BySlot.antt` proves
+-- `BitsBySlot`.
 use mathlib.Core.Bool.{Bool, false, _||_, cond}
 use mathlib.Core.List.{List, [], _∷_}
 use mathlib.Core.Path.{_≡_}
-use Prim.Native.Nat.{ℕ, _+_, _-_, _≤_}
+use Prim.Native.Nat.{ℕ, _+_, _-_, _≤_, _<_}
 use lib.Dec.{eqb}
 use lib.IntN.{ℤ}
-use lib.ListN.{take, drop}
-use Rattle.alloc.specs.Allocation.{from}
+use lib.ListN.{getD}
 use Rattle.syntax.specs.declared.Role.the-variants.{Mantissas}
 use Rattle.syntax.specs.Grammar.{oneRoled}
 use Rattle.syntax.specs.Names as Name
@@ -15,21 +14,11 @@ use Rattle.syntax.specs.Run.{spanning, Spot, reached, sum, row, run}
 use Rattle.slots.specs.declared.AllocState.{AllocState}
 use Rattle.slots.specs.declared.Coupling.{Coupling}
 use Rattle.mantissas.specs.Counts.{noCounts, countedAll, plus, widthOf, openAfter}
-use Rattle.mantissas.specs.Mantissas.{noneOpen, widths, silent, partPointers, allPointers, mantissas}
+use Rattle.slots.specs.Slots.{CPL, LFE}
+use Rattle.mantissas.specs.Mantissas.{noneOpen, widths, silent, partPointers, allPointers, bitsIn, bySlot, Walked, mantissas}
 use Rattle.mantissas.specs.Parts.{parts}
 use Rattle.mantissas.specs.declared.Counts.{Counts}
 use Rattle.mantissas.specs.declared.Part.{Part}
-
--- the bits of one slot
-unfoldable pub bitsIn : (slot : ℕ) → List Part → (ws : List ℕ) → ℕ
-bitsIn slot [] ws = 0
-bitsIn slot (p ∷ ps) ws =
-    let bins = p .end - p .start in
-    cond (eqb (p .slot) slot) (sum (take bins ws)) 0 + bitsIn slot ps (drop bins ws)
-
--- of the seven
-unfoldable pub bySlot : List Part → (ws : List ℕ) → List ℕ
-bySlot ps ws = from 0 7 (λ slot. bitsIn slot ps ws)
 
 -- the pieces of a block's walk, and the seven counts of the block
 abbrev pub walkedPieces : (fscod : ℕ) → AllocState → List (List ℤ) → List Part → List ℕ
@@ -43,6 +32,12 @@ slotBits fscod nfchans lfeon c ends st exps =
 abbrev pub used : (slot : ℕ) → List Part → Bool
 used slot [] = false
 used slot (p ∷ ps) = eqb (p .slot) slot || used slot ps
+
+-- of the seven counts of a block, those of slots that are not in use
+pub record Unused (nfchans : ℕ) (lfeon cplinu : Bool) (bits : List ℕ) : Type 0 where
+  pub channels : (slot : ℕ) → nfchans ≤ slot → slot < CPL → getD bits slot 0 ≡ 0
+  pub coupling : cplinu ≡ false → getD bits CPL 0 ≡ 0
+  pub lfe : lfeon ≡ false → getD bits LFE 0 ≡ 0
 
 -- ---- without a walk: a slot takes the bits by which the total grows
 
@@ -60,12 +55,15 @@ pub record BitsBySlot : Type 0 where
   pub all : (fscod nfchans : ℕ) (lfeon : Bool) (c : Coupling) (ends : List ℕ) (st : AllocState) (exps : List (List ℤ)) → nfchans ≤ 5
       → sum (slotBits fscod nfchans lfeon c ends st exps) ≡ sum (walkedPieces fscod st exps (parts nfchans lfeon c ends))
   pub span : (blk fscod nfchans : ℕ) (lfeon : Bool) (c : Coupling) (ends : List ℕ) (st : AllocState) (exps : List (List ℤ)) → nfchans ≤ 5
-      → (s : List ℕ) (p : Spot) (start : ℕ)
+      → (s : List ℕ) (p : Spot) (w : Walked)
       → let r = run (mantissas blk fscod nfchans lfeon c ends st exps) s p in
-      r .end ≡ reached start
-      → r .rows ≡ row spanning (oneRoled blk Mantissas Name.mantissas) (p .at) (sum (slotBits fscod nfchans lfeon c ends st exps)) 0 ∷ []
+      r .end ≡ reached w
+      → (w .bits ≡ slotBits fscod nfchans lfeon c ends st exps)
+      × (r .rows ≡ row spanning (oneRoled blk Mantissas Name.mantissas) (p .at) (sum (w .bits)) 0 ∷ [])
   -- a slot not in use has none
   pub none : (slot : ℕ) (ps : List Part) (ws : List ℕ) → used slot ps ≡ false → bitsIn slot ps ws ≡ 0
+  pub unused : (fscod nfchans : ℕ) (lfeon : Bool) (c : Coupling) (ends : List ℕ) (st : AllocState) (exps : List (List ℤ)) → nfchans ≤ 5
+      → Unused nfchans lfeon (c .cplinu) (slotBits fscod nfchans lfeon c ends st exps)
   -- what mantissas take after others follows from the counts of both
   pub grows : (before : Counts) (baps : List ℕ) → sum (widths (openAfter before) baps) ≡ widthOf (plus before (countedAll noCounts baps)) - widthOf before
   -- so a slot's bits follow from the counts of each slot by itself

@@ -1,19 +1,20 @@
 -- The bit allocation of a block and its mantissas (4.3.3, 4.4.3.61 to .63, 6.2.2.1, 6.3.5): one list of bit allocation pointers, one pass. A `bap`
--- is one such pointer.
+-- is one such pointer. The widths of that pass, cut where the slots' bins end and summed, are the bits of each slot.
 use mathlib.Core.Bool.{Bool, _&&_, not, cond}
 use mathlib.Core.List.{List, [], _∷_, _++_}
 use Prim.Native.Nat.{ℕ, _+_, _-_, _*_, _%_}
 use lib.Dec.{eqb}
 use lib.IntN.{ℤ, pos}
-use lib.ListN.{getD, replicate}
+use lib.ListN.{getD, take, drop, replicate}
 use Rattle.tables.specs.Tables.{slowDecay, fastDecay, slowGain, fastGain, knee, floor, bapBits}
-use Rattle.alloc.specs.Allocation.{snrOffset, allocation}
+use Rattle.alloc.specs.Allocation.{from, snrOffset, allocation}
 use Rattle.alloc.specs.declared.Gains.{Gains}
 use Rattle.alloc.specs.declared.Parameters.{Parameters}
 use Rattle.syntax.specs.declared.Role.the-variants.{Mantissas}
 use Rattle.syntax.specs.Grammar.{Grammar, done, _>>=_, _>>_, oneRoled, pieces, position, refuseIf}
 use Rattle.syntax.specs.Names as Name
 use Rattle.syntax.specs.Refusals.{noLeak}
+use Rattle.syntax.specs.Run.{sum}
 use Rattle.slots.specs.Slots.{CPL, LFE, noDeltas}
 use Rattle.slots.specs.declared.AllocState.{AllocState}
 use Rattle.slots.specs.declared.Coupling.{Coupling}
@@ -104,17 +105,35 @@ unfoldable pub widths : Open → List ℕ → List ℕ
 widths g [] = []
 widths g (bap ∷ baps) = bitsOf g bap ∷ widths (nowOpen g bap) baps
 
--- ---- the mantissas of a block: the bit at which they begin
+-- ---- the bits of each slot: a group's count to the slot of its first member
+
+-- of one slot
+unfoldable pub bitsIn : (slot : ℕ) → List Part → (ws : List ℕ) → ℕ
+bitsIn slot [] ws = 0
+bitsIn slot (p ∷ ps) ws =
+    let bins = p .end - p .start in
+    cond (eqb (p .slot) slot) (sum (take bins ws)) 0 + bitsIn slot ps (drop bins ws)
+
+-- of the seven
+unfoldable pub bySlot : List Part → (ws : List ℕ) → List ℕ
+bySlot ps ws = from 0 7 (λ slot. bitsIn slot ps ws)
+
+-- ---- the mantissas of a block: the bit at which they begin, and the bits of the seven slots
+
+pub record Walked : Type 0 where
+  pub start : ℕ
+  pub bits : List ℕ
 
 -- coupling needs its leak, unless every pointer is 0
 abbrev pub leakMissing : (isSilent cplinu sent : Bool) → Bool
 leakMissing isSilent cplinu sent = not isSilent && (cplinu && not sent)
 
-unfoldable pub mantissas : (blk fscod nfchans : ℕ) (lfeon : Bool) → Coupling → (ends : List ℕ) → AllocState → List (List ℤ) → Grammar ℕ
+unfoldable pub mantissas : (blk fscod nfchans : ℕ) (lfeon : Bool) → Coupling → (ends : List ℕ) → AllocState → List (List ℤ) → Grammar Walked
 mantissas blk fscod nfchans lfeon c ends st exps = do
   let ps = parts nfchans lfeon c ends
   let isSilent = silent (st .offsets) ps
+  let ws = widths noneOpen (allPointers fscod st exps isSilent ps)
   refuseIf (leakMissing isSilent (c .cplinu) (st .leak .sent)) noLeak
   start ← position
-  pieces (oneRoled blk Mantissas Name.mantissas) (widths noneOpen (allPointers fscod st exps isSilent ps))
-  done start
+  pieces (oneRoled blk Mantissas Name.mantissas) ws
+  done (record { start = start; bits = bySlot ps ws })

@@ -24,6 +24,7 @@ use syntax::names;
 use syntax::refusals::NO_LEAK;
 use syntax::rows::close;
 ghost use mathlib.Core.List.{List};
+ghost use mathlib.Core.Path.{_≡_};
 ghost use Prim.Native.Nat.{ℕ};
 ghost use Rattle.syntax.specs.Reads.{Reads};
 ghost use Rattle.slots.specs.Sound.{SoundAlloc, SoundExps};
@@ -70,13 +71,27 @@ pub struct Counts {
     pub fours: u32,
 }
 
+// The first bit of a block's mantissas, and the bits of each slot.
 pub struct MantissasRead {
     pub start: u16,
+    pub bits: [u16; 7],
     pub cursor: Cursor,
 }
 
-// One span; the answer is its first bit. Walked first, and its row is written after. What was counted of the slots in earlier blocks is lent; what
-// was counted from exponents that are new in this block is forgotten before all else, so that it is true of the exponents whatever is read.
+// Nothing is told where reading stopped.
+fn none_read(cursor: Cursor) -> MantissasRead
+    ensures { λ r. ⌜ r .cursor ≡ cursor ⌝ }
+{
+    MantissasRead {
+        start: 0,
+        bits: [0; 7],
+        cursor,
+    }
+}
+
+// One span; the answer is its first bit and the bits of the slots. Walked first, and its row is written after. What was counted of the
+// slots in earlier blocks is lent; what was counted from exponents that are new in this block is forgotten before all else, so that it is
+// true of the exponents whatever is read.
 pub fn mantissas(
     rows: &mut [i32],
     c: Cursor,
@@ -88,15 +103,12 @@ pub fn mantissas(
     requires { ⌜ SoundBlock block × SoundAlloc st × SoundExps (now exps) ⌝ }
     requires { ⌜ KeptUnlessNew (block .fscod) (block .strategies) (now memos) (now exps) ⌝ }
     ensures { λ r. ⌜ ((s : List ℕ) → Reads (grammar.mantissas (block .blk) (block .fscod) (block .nfchans) (block .lfeon) (block .coupling) (block .ends) st (now (exps .entry)))
-        s c (now (rows .entry)) (r .start) (r .cursor) (now (rows .exit))) ⌝ }
+        s c (now (rows .entry)) (record { start = r .start; bits = r .bits }) (r .cursor) (now (rows .exit))) ⌝ }
     ensures { λ _. ⌜ Kept (block .fscod) (now (memos .exit)) (now (exps .entry)) ⌝ }
 {
     forget_new(&mut *memos, block.strategies);
     if c.stop.number != 0 {
-        return MantissasRead {
-            start: 0,
-            cursor: c,
-        };
+        return none_read(c);
     }
     let coupling = block.coupling;
     let ends = block.ends;
@@ -105,15 +117,17 @@ pub fn mantissas(
     let leak = st.leak;
     let known = refuse_if(c, leak_missing(silent, coupling.cplinu, leak.sent), NO_LEAK);
     if known.stop.number != 0 {
-        return MantissasRead {
-            start: 0,
-            cursor: known,
-        };
+        return none_read(known);
     }
     let start = known.at;
     let fscod = block.fscod;
     let item = one_roled(block.blk, Role::Mantissas, names::MANTISSAS);
     let walked = walk(known, item, Setting { fscod, st, silent }, exps, memos, ps);
-    let cursor = close(rows, walked, item, start);
-    MantissasRead { start, cursor }
+    let bits = walked.bits;
+    let cursor = close(rows, walked.cursor, item, start);
+    MantissasRead {
+        start,
+        bits,
+        cursor,
+    }
 }

@@ -6,6 +6,7 @@ use crate::Setting;
 use crate::counting::NO_COUNTS;
 use crate::counting::add;
 use crate::counting::count_bins;
+use crate::counting::width_of;
 use crate::parameters::deltas_of;
 use crate::pointers::no_pointers;
 use crate::pointers::slot_pointers;
@@ -16,12 +17,13 @@ use slots::Strategies;
 ghost use mathlib.Core.Path.{_≡_};
 ghost use mathlib.Core.Bool.{true, cond};
 ghost use mathlib.Core.List.{List};
-ghost use Prim.Native.Nat.{ℕ, _*_, _<_};
+ghost use Prim.Native.Nat.{ℕ, _<_};
 ghost use lib.IntN.{ℤ};
+ghost use Rattle.syntax.specs.Run.{sum};
 ghost use Rattle.slots.specs.Slots.{isNew};
 ghost use Rattle.slots.specs.Sound.{SoundAlloc, SoundExps};
 ghost use Rattle.mantissas.specs.Mantissas as grammar;
-ghost use Rattle.mantissas.specs.Mantissas.{allPointers, partPointers};
+ghost use Rattle.mantissas.specs.Mantissas.{noneOpen, widths, allPointers, partPointers, bySlot};
 ghost use Rattle.mantissas.specs.Sound.{SoundSetting, SoundPart, SoundParts, listed};
 ghost use Rattle.mantissas.specs.Counts.{noCounts, countedAll, AtMost};
 ghost use Rattle.mantissas.specs.Kept.{nothing, memoOf, countsIn, SameBasis, Kept, KeptUnlessNew};
@@ -123,6 +125,12 @@ fn counts_in(kept: &[u32; 16]) -> Counts
 
 // ---- the mantissas of the slots
 
+// The bits that mantissas take: all of them, and those of each slot.
+pub struct Taken {
+    pub width: u32,
+    pub bits: [u16; 7],
+}
+
 // The mantissas of a slot, counted.
 fn count_slot(by: Setting, exps: &[[i16; 256]; 7], p: Part) -> Counts
     requires { ⌜ SoundSetting by × SoundExps (now exps) × SoundPart p ⌝ }
@@ -172,25 +180,32 @@ fn part_counts(by: Setting, exps: &[[i16; 256]; 7], memos: &mut [[u32; 16]; 7], 
     counts_of(by, exps, memos, p)
 }
 
-// The mantissas of all slots in use.
+// The bits that the mantissas of all slots in use take, and those of each of the seven slots: a slot takes what the total grows by.
 pub fn count_parts(
     by: Setting,
     exps: &[[i16; 256]; 7],
     memos: &mut [[u32; 16]; 7],
     ps: Parts,
-) -> Counts
+) -> Taken
     requires { ⌜ SoundSetting by × SoundExps (now exps) × SoundParts ps ⌝ }
     requires { ⌜ Kept (by .fscod) (now memos) (now exps) ⌝ }
-    ensures { λ r. ⌜ r ≡ countedAll noCounts (allPointers (by .fscod) (by .st) (now (exps .entry)) (by .silent) (listed ps)) ⌝ }
-    ensures { λ r. ⌜ AtMost (7 * 253) r ⌝ }
+    ensures { λ r. ⌜ r .width ≡ sum (widths noneOpen (allPointers (by .fscod) (by .st) (now (exps .entry)) (by .silent) (listed ps))) ⌝ }
+    ensures { λ r. ⌜ r .bits ≡ bySlot (listed ps) (widths noneOpen (allPointers (by .fscod) (by .st) (now (exps .entry)) (by .silent) (listed ps))) ⌝ }
+    ensures { λ r. ⌜ r .width < 65536 ⌝ }
     ensures { λ _. ⌜ Kept (by .fscod) (now (memos .exit)) (now (exps .entry)) ⌝ }
 {
     let mut counts = NO_COUNTS;
+    let mut width = 0u32;
+    let mut bits = [0u16; 7];
     let count = ps.count;
     for i in 0..count {
         let p = ps.list[i];
+        let slot = p.slot as usize;
         let more = part_counts(by, exps, memos, p);
         counts = add(counts, more);
+        let before = width;
+        width = width_of(counts);
+        bits[slot] += (width - before) as u16;
     }
-    counts
+    Taken { width, bits }
 }

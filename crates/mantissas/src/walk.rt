@@ -15,7 +15,7 @@ ghost use mathlib.Core.Path.{_≡_};
 ghost use Prim.Native.Nat.{_*_, _≤_};
 ghost use Rattle.syntax.specs.Reads.{Goes, walked};
 ghost use Rattle.slots.specs.Sound.{Entries, SoundExps};
-ghost use Rattle.mantissas.specs.Mantissas.{noneOpen, widths, allPointers};
+ghost use Rattle.mantissas.specs.Mantissas.{noneOpen, widths, allPointers, bySlot};
 ghost use Rattle.mantissas.specs.Sound.{SoundSetting, SoundParts, listed, between};
 ghost use Rattle.mantissas.specs.Counts.{countedAll, openAfter, AtMost};
 ghost use Rattle.mantissas.specs.Kept.{Kept};
@@ -68,6 +68,12 @@ fn walk_parts(c: Cursor, item: Item, by: Setting, exps: &[[i16; 256]; 7], ps: Pa
     cursor
 }
 
+// The bits of each slot, and where the walk ends.
+pub struct SlotsWalked {
+    pub bits: [u16; 7],
+    pub cursor: Cursor,
+}
+
 // Where the mantissas fit the frame they are passed at once; where not, the first that does not fit is looked for.
 pub fn walk(
     c: Cursor,
@@ -76,16 +82,20 @@ pub fn walk(
     exps: &[[i16; 256]; 7],
     memos: &mut [[u32; 16]; 7],
     ps: Parts,
-) -> Cursor
+) -> SlotsWalked
     requires { ⌜ Goes c × SoundSetting by × SoundExps (now exps) × SoundParts ps ⌝ }
     requires { ⌜ Kept (by .fscod) (now memos) (now exps) ⌝ }
-    ensures { λ r. ⌜ r ≡ walked item (widths noneOpen (allPointers (by .fscod) (by .st) (now (exps .entry)) (by .silent) (listed ps))) c ⌝ }
+    ensures { λ r. ⌜ r .cursor ≡ walked item (widths noneOpen (allPointers (by .fscod) (by .st) (now (exps .entry)) (by .silent) (listed ps))) c ⌝ }
+    ensures { λ r. ⌜ r .bits ≡ bySlot (listed ps) (widths noneOpen (allPointers (by .fscod) (by .st) (now (exps .entry)) (by .silent) (listed ps))) ⌝ }
     ensures { λ _. ⌜ Kept (by .fscod) (now (memos .exit)) (now (exps .entry)) ⌝ }
 {
-    let counts = count_parts(by, exps, memos, ps);
-    let end = c.at as u32 + width_of(counts);
+    let taken = count_parts(by, exps, memos, ps);
+    let bits = taken.bits;
+    let end = c.at as u32 + taken.width;
     if end <= c.limit as u32 {
-        return go_to(c, end as u16);
+        let cursor = go_to(c, end as u16);
+        return SlotsWalked { bits, cursor };
     }
-    walk_parts(c, item, by, exps, ps)
+    let cursor = walk_parts(c, item, by, exps, ps);
+    SlotsWalked { bits, cursor }
 }

@@ -5,7 +5,7 @@
 
 use judge::corners::MOST_ROWS;
 use judge::cut::answer;
-use judge::layout::{answer_at, ROW};
+use judge::layout::{summary, ROW};
 use judge::listing::{listing, BYTES, ROWS};
 use std::io::{self, Read, Write};
 
@@ -28,9 +28,9 @@ fn main() -> io::Result<()> {
         let got = answer(&input, place, &mut room);
         out.write_all(listing(&got, &room).as_bytes())?;
         if given("--summary").is_some() {
-            let numbers = got.numbers().map(|n| n.to_string());
-            let summary = &numbers[answer_at::SUMMARY..answer_at::NAME];
-            writeln!(out, "summary {}", summary.join(" "))?;
+            let numbers = got.numbers();
+            let told: Vec<String> = summary().map(|at| numbers[at].to_string()).collect();
+            writeln!(out, "summary {}", told.join(" "))?;
         }
         match &got.verdict {
             Ok(s) if all && place + s.bytes < input.len() => place += s.bytes,

@@ -7,6 +7,7 @@ use judge::corners::MOST_ROWS;
 use judge::cut::REFUSALS;
 use judge::features::FEATURES;
 use judge::goals::{self, *};
+use judge::mantissas;
 use judge::names::{self, number, NAMES};
 
 fn main() {
@@ -71,6 +72,11 @@ fn main() {
     for (at, feature) in (0..).zip(FEATURES) {
         println!("{:7}  {feature}", counts.of((FEATURE, at, 0)));
     }
+    println!("\naccepted frames with");
+    for (what, of) in mantissas::sought() {
+        let times = counts.of((MANTISSAS, what, of));
+        println!("{times:7}  {}", mantissas::say(what, of));
+    }
     println!("\nplaces in a longer capture");
     for (at, place) in (0..).zip(PLACES) {
         println!("{:7}  {place}", counts.of((PLACE, at, 0)));
@@ -110,6 +116,10 @@ fn main() {
         (SIZE, "every frame size"),
         (STRATEGY, "every exponent strategy in every block"),
         (FEATURE, "every feature"),
+        (
+            MANTISSAS,
+            "everything that is sought of groups and silent slots",
+        ),
         (PLACE, "every sort of place"),
         (
             LAST_PART,

@@ -1,12 +1,13 @@
 //! CUT COPY of `ddpmeta/ac3.rs`. Changed: the cursor comes from the caller, every refusal names its number of
-//! docs/FORMAT.md at its site, bands of coordinates are told, "coordinates sent" is noted, it is cut in two after addbsi, and it
-//! ends where `audio_end` is set.
+//! docs/FORMAT.md at its site, bands of coordinates are told, "coordinates sent" and the bits of mantissas are noted, it is cut in two after
+//! addbsi, and it ends where `audio_end` is set.
 //!
 //! AC-3 syncframe parser, ETSI TS 102 366 V1.4.1 clause 4.3 (syncinfo, bsi, audblk, auxdata,
 //! errorcheck) with the Annex D alternate BSI for bsid 6. Every element is recorded.
 
 use crate::cut::blocks::{
     allocate_block, conventional, read_exponents, AllocState, ExpSet, Groups, SlotAlloc, CPL, LFE,
+    SLOTS,
 };
 use crate::cut::{no, Cursor, Header, Result, Source, Summary};
 use crate::syntax::Role;
@@ -158,6 +159,8 @@ pub fn blocks<S: Source>(cur: &mut Cursor<'_, S>, header: Header) -> Result<Summ
     // Added: "coordinates sent" of the summary, and which channels have had cplcoe 1 (it is read of coupled ones alone).
     let mut coordinates_sent = true;
     let mut had_coordinates = [false; 5];
+    // Added: the bits of the mantissas, by block and slot.
+    let mut mantissa_bits = [[0; SLOTS]; 6];
 
     for blk in 0..6usize {
         cur.block = blk as i8;
@@ -416,16 +419,17 @@ pub fn blocks<S: Source>(cur: &mut Cursor<'_, S>, header: Header) -> Result<Summ
         let start = cur.pos;
         mantissa_starts.push(start);
         let mut g = Groups::default();
+        let used = &mut mantissa_bits[blk];
         let mut got_cpl = false;
         for ch in 0..nfchans {
-            conventional(cur, &bap[ch], 0, endmant[ch], &mut g)?;
+            conventional(cur, &bap[ch], 0, endmant[ch], &mut g, &mut used[ch])?;
             if cplinu && chincpl[ch] && !got_cpl {
-                conventional(cur, &bap[CPL], cplstrt, cplend, &mut g)?;
+                conventional(cur, &bap[CPL], cplstrt, cplend, &mut g, &mut used[CPL])?;
                 got_cpl = true;
             }
         }
         if lfeon {
-            conventional(cur, &bap[LFE], 0, 7, &mut g)?;
+            conventional(cur, &bap[LFE], 0, 7, &mut g, &mut used[LFE])?;
         }
         cur.close_span("mantissas", Role::Mantissas, start)?; // may refuse: no row left
     }
@@ -443,5 +447,6 @@ pub fn blocks<S: Source>(cur: &mut Cursor<'_, S>, header: Header) -> Result<Summ
         block_starts: block_starts.try_into().expect("six blocks"),
         mantissa_starts: mantissa_starts.try_into().expect("six blocks"),
         coordinates_sent,
+        mantissa_bits,
     })
 }

@@ -1,5 +1,5 @@
-//! CUT COPY of `ddpmeta/blocks.rs`. Changed: the cursor's type, groups and segments are told, and every refusal names its number of
-//! docs/FORMAT.md at its site (0: docs/FORMAT.md says that it cannot happen). `aht` and `refuse` are dropped.
+//! CUT COPY of `ddpmeta/blocks.rs`. Changed: the cursor's type, groups and segments are told, the bits of mantissas are counted by
+//! slot, and every refusal names its number of docs/FORMAT.md at its site (0: docs/FORMAT.md says that it cannot happen). `aht` and `refuse` are dropped.
 //!
 //! Audio block machinery shared by the AC-3 (4.3.3) and E-AC-3 (E.1.2.4) parsers: exponent
 //! unpacking (6.1.3), bit allocation state (6.2.2), and mantissa section lengths (6.3.5 for
@@ -219,15 +219,17 @@ pub struct Groups {
     g4: u8,
 }
 
-/// Advance over conventional mantissas of bins `[start, end)`.
+/// Advance over conventional mantissas of bins `[start, end)`, and add their bits to those of their slot.
 pub fn conventional<S: Source>(
     cur: &mut Cursor<'_, S>,
     bap: &[u8],
     start: usize,
     end: usize,
     g: &mut Groups,
+    used: &mut usize,
 ) -> Result<()> {
     for &b in &bap[start..end] {
+        cur.pointers.push(b);
         let n = match b {
             0 => 0,
             1 => {
@@ -250,6 +252,7 @@ pub fn conventional<S: Source>(
         };
         if n > 0 {
             cur.raw(n, "mantissa")?;
+            *used += n;
         }
     }
     Ok(())

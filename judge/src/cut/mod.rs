@@ -9,6 +9,7 @@ pub mod ac3;
 pub mod blocks;
 
 use crate::bits;
+use crate::cut::blocks::SLOTS;
 use crate::layout::{answer_at, row, ANSWER, NO_PART, ROW};
 use crate::names;
 use crate::syntax::{Field, Role};
@@ -61,6 +62,8 @@ pub struct Summary {
     pub block_starts: [usize; 6],
     pub mantissa_starts: [usize; 6],
     pub coordinates_sent: bool,
+    /// By block and slot; a group's are counted to the slot of its first member.
+    pub mantissa_bits: [[usize; SLOTS]; 6],
 }
 
 impl Summary {
@@ -81,6 +84,11 @@ impl Summary {
             numbers[answer_at::MANTISSA_STARTS + block] = start as i32;
         }
         numbers[answer_at::COORDINATES_SENT] = self.coordinates_sent.into();
+        for (block, slots) in self.mantissa_bits.into_iter().enumerate() {
+            for (slot, bits) in slots.into_iter().enumerate() {
+                numbers[answer_at::MANTISSA_BITS + SLOTS * block + slot] = bits as i32;
+            }
+        }
     }
 }
 
@@ -120,6 +128,8 @@ pub struct Cursor<'a, S> {
     pub block: i8,
     pub count: usize,
     pub room: &'a mut [i32],
+    /// The pointers that were walked over, bin by bin: `mantissas` counts them a second time.
+    pub pointers: Vec<u8>,
 }
 
 impl<'a, S: Source> Cursor<'a, S> {
@@ -131,6 +141,7 @@ impl<'a, S: Source> Cursor<'a, S> {
             block: -1,
             count: 0,
             room,
+            pointers: Vec::new(),
         }
     }
 
@@ -301,13 +312,19 @@ impl Answer {
 
 /// Parse the frame at byte `place` of `capture` into the lent `room`.
 pub fn answer(capture: &[u8], place: usize, room: &mut [i32]) -> Answer {
+    walked(capture, place, room).0
+}
+
+/// The same, and the pointers of all mantissas that were walked over.
+pub fn walked(capture: &[u8], place: usize, room: &mut [i32]) -> (Answer, Vec<u8>) {
     let mut cur = Cursor::new(Bytes(capture.get(place..).unwrap_or(&[])), room);
     let verdict = ac3::parse(&mut cur);
-    Answer {
+    let answer = Answer {
         rows: cur.count,
         bit: cur.pos,
         verdict,
-    }
+    };
+    (answer, cur.pointers)
 }
 
 /// More rows than any frame has, known without a proof: every row takes a bit of at most 3,840 bytes, but for

@@ -58,12 +58,12 @@ mantissas-requires c κs =
 
 counted-requires : tie.Need-counted-requires
 counted-requires c κs =
-    let alloc = c .before .before .before .before .before .before .before .before .before .before .before .before .before .before .before in
+    let alloc = c .before .before .before .before .before .before .before .before .before .before .before .before .before .before .before .before in
     start (exponents-before alloc) .pre .0
 
 same-length : tie.Need-same-length
 same-length c =
-    let t7 = c .before .before .before .before .before .before .before in
+    let t7 = c .before .before .before .before .before .before .before .before in
     let t6 = t7 .before .before .before .before .before in
     let t5 = t6 .before .before .before .before in
     let t4 = exponents-before t5 in
@@ -77,7 +77,7 @@ reads c =
     let t10 = c in
     let t9 = t10 .before in
     let t8 = t9 .before in
-    let t7 = t8 .before .before .before .before .before in
+    let t7 = t8 .before .before .before .before .before .before in
     let t6 = t7 .before .before .before .before .before in
     let t5 = t6 .before .before .before .before in
     let t4 = exponents-before t5 in

@@ -19,7 +19,8 @@ counted-spec =
     (λ c. search needs)  -- array-write-starts
     (λ c. search needs)  -- mul-mantissa-starts
     (λ c. search needs)  -- array-write-mantissa-starts
-    (λ c κs. omega (arith, c .before .before .pre))  -- one-more-if-requires
+    (λ c κs. search needs)  -- with-block-requires
+    (λ c κs. omega (arith, c .before .before .before .before .pre))  -- one-more-if-requires
     (λ c.
-    let start = c .before .before .before in
-    rw (c .one-more-if .ensures) (refl, one-more (start .args .cplinu) (start .args .t .coupled) (start .args .blk) (start .pre .1))))  -- returns
+    let start = c .before .before .before .before .before in
+    rw (c .one-more-if .ensures, c .before .with-block .ensures) (refl, one-more (start .args .cplinu) (start .args .t .coupled) (start .args .blk) (start .pre .1))))  -- returns

@@ -99,3 +99,9 @@ pub type AhtAnswer = [usize; 3];
 
 /// An answer about the profile: refusal, rows of the parse, the first broken rule (0: none), the row that breaks it.
 pub type ProfileAnswer = [i32; 4];
+
+/// An answer about an index: refusal, entries.
+pub type IndexAnswer = [usize; 2];
+
+/// The numbers of an entry of an index: place, length, acmod, dialnorm, second dialnorm or 0.
+pub const INDEXED: usize = 5;

@@ -71,6 +71,10 @@
 //!
 //! [`salvage`] goes through a damaged capture: it gives the frames that are left, one after the other, and a list of frames and gaps.
 //!
+//! # An index beside the capture
+//!
+//! [`index`](mod@index) keeps a list of a growing capture's frames, with their levels, and extends it by what was appended.
+//!
 //! # The contribution profile
 //!
 //! [`profile`] says whether a frame is one that a carrier takes, and if not, which rule is broken by which field.
@@ -138,6 +142,7 @@ pub mod edit;
 mod field;
 mod frame;
 mod header;
+pub mod index;
 mod layout;
 mod names;
 mod parser;

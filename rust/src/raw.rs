@@ -1,10 +1,11 @@
 //! The archive's functions (c/ferrysprig.h) as safe ones. All unsafe code of the crate stands here; compare/ takes this file, too.
 
 use crate::layout::{
-    answer_at, burst_answer_at, header_answer_at, profile_answer_at, salvage_answer_at, AhtAnswer,
-    Answer, BurstAnswer, HeaderAnswer, ProfileAnswer, SalvageAnswer, AHT_ANSWER_NUMBERS,
-    ANSWER_NUMBERS, BURST_ANSWER_NUMBERS, ENTRY_NUMBERS, HEADER_ANSWER_NUMBERS,
-    PROFILE_ANSWER_NUMBERS, ROW_NUMBERS, SALVAGE_ANSWER_NUMBERS,
+    answer_at, burst_answer_at, header_answer_at, index_answer_at, profile_answer_at,
+    salvage_answer_at, AhtAnswer, Answer, BurstAnswer, HeaderAnswer, IndexAnswer, ProfileAnswer,
+    SalvageAnswer, AHT_ANSWER_NUMBERS, ANSWER_NUMBERS, BURST_ANSWER_NUMBERS, ENTRY_NUMBERS,
+    HEADER_ANSWER_NUMBERS, INDEX_ANSWER_NUMBERS, INDEX_ENTRY_NUMBERS, PROFILE_ANSWER_NUMBERS,
+    ROW_NUMBERS, SALVAGE_ANSWER_NUMBERS,
 };
 
 extern "C" {
@@ -88,6 +89,16 @@ extern "C" {
         out: *mut u8,
         out_len: usize,
         answer: *mut SalvageAnswer,
+    );
+    fn ferrysprig_index(
+        capture: *const u8,
+        capture_len: usize,
+        rows: *mut i32,
+        rows_len: usize,
+        index: *mut usize,
+        index_len: usize,
+        entries: usize,
+        answer: *mut IndexAnswer,
     );
     fn ferrysprig_aht(
         data: *const u8,
@@ -335,4 +346,29 @@ pub fn salvage<'a>(
         .get(..answer[salvage_answer_at::WRITTEN])
         .expect("libferrysprig.a wrote more bytes than there is room for");
     (answer, listed, written)
+}
+
+/// Makes an index of `capture`, or extends the one whose `entries` stand at the front of `index`.
+pub fn index(capture: &[u8], rows: &mut [i32], index: &mut [usize], entries: usize) -> IndexAnswer {
+    let mut answer = [0; INDEX_ANSWER_NUMBERS];
+    // SAFETY: as in `burst_write`, with `index` as `out`.
+    unsafe {
+        ferrysprig_index(
+            capture.as_ptr(),
+            capture.len(),
+            rows.as_mut_ptr(),
+            rows.len(),
+            index.as_mut_ptr(),
+            index.len(),
+            entries,
+            &mut answer,
+        );
+    }
+    // (That they fit is proved, as in `parse`. On a refusal they are those given, which may be any number.)
+    assert!(
+        answer[index_answer_at::REFUSAL] != 0
+            || answer[index_answer_at::ENTRIES] <= index.len() / INDEX_ENTRY_NUMBERS,
+        "libferrysprig.a entered more frames than there is room for"
+    );
+    answer
 }

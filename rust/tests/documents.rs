@@ -7,10 +7,13 @@ mod layout;
 
 use ferrysprig::burst::{self, Refusal};
 use ferrysprig::profile::{Profile, Rule};
-use ferrysprig::{aht, blocks_into, edit, header, parse, salvage, Field, Role, NAMES, REFUSALS};
+use ferrysprig::{
+    aht, blocks_into, edit, header, index, parse, salvage, Field, Role, NAMES, REFUSALS,
+};
 use ferrysprig::{LEAST_BYTES, MOST_BYTES, MOST_HEADER_ROWS, MOST_ROWS, ROW_NUMBERS};
 use files::text;
 use layout::{aht_answer_at, answer_at, burst_answer_at, entry_at, header_answer_at};
+use layout::{index_answer_at, index_entry_at, INDEX_ANSWER_NUMBERS, INDEX_ENTRY_NUMBERS};
 use layout::{kind, profile_answer_at, row_at, salvage_answer_at};
 use layout::{AHT_ANSWER_NUMBERS, ANSWER_NUMBERS, BURST_ANSWER_NUMBERS, ENTRY_NUMBERS};
 use layout::{HEADER_ANSWER_NUMBERS, PROFILE_ANSWER_NUMBERS, SALVAGE_ANSWER_NUMBERS};
@@ -102,6 +105,19 @@ fn texts_are_those_of_the_header() {
     ] {
         say(refusal.number(), refusal.meaning());
     }
+    // (37 of an index is that of a salvage.)
+    let of_index = [
+        index::Refusal::NoRow,
+        index::Refusal::NoRoom,
+        index::Refusal::OtherEntry,
+    ];
+    for refusal in of_index {
+        say(refusal.number(), refusal.meaning());
+    }
+    assert_eq!(
+        index::Refusal::NoRow.meaning(),
+        salvage::Refusal::NoRow.meaning()
+    );
     // (Refusal 6 of a section has a frame's number and its own text.)
     for refusal in [
         aht::Refusal::WrongGain,
@@ -128,6 +144,11 @@ fn numbers_are_those_of_the_header() {
     assert_eq!(AHT_ANSWER_NUMBERS, of_aht);
     let of_profile = number("FERRYSPRIG_PROFILE_ANSWER_NUMBERS");
     assert_eq!(PROFILE_ANSWER_NUMBERS, of_profile);
+    let of_index = number("FERRYSPRIG_INDEX_ANSWER_NUMBERS");
+    assert_eq!(INDEX_ANSWER_NUMBERS, of_index);
+    let of_entry = number("FERRYSPRIG_INDEX_ENTRY_NUMBERS");
+    assert_eq!(INDEX_ENTRY_NUMBERS, of_entry);
+    assert_eq!(INDEX_ENTRY_NUMBERS, judge::layout::INDEXED);
     assert_eq!(MOST_ROWS, number("FERRYSPRIG_MOST_ROWS"));
     assert_eq!(MOST_HEADER_ROWS, number("FERRYSPRIG_MOST_HEADER_ROWS"));
     assert_eq!(MOST_BYTES, number("FERRYSPRIG_MOST_BYTES"));
@@ -234,6 +255,17 @@ fn places_are_those_of_the_header() {
         ("RULE", profile_answer_at::RULE),
         ("ROW", profile_answer_at::ROW),
     ];
+    let of_index = [
+        ("REFUSAL", index_answer_at::REFUSAL),
+        ("ENTRIES", index_answer_at::ENTRIES),
+    ];
+    let indexed = [
+        ("PLACE", index_entry_at::PLACE),
+        ("LENGTH", index_entry_at::LENGTH),
+        ("ACMOD", index_entry_at::ACMOD),
+        ("DIALNORM", index_entry_at::DIALNORM),
+        ("DIALNORM2", index_entry_at::DIALNORM2),
+    ];
     let rules = [
         ("FSCOD", Rule::Fscod),
         ("ACMOD", Rule::Acmod),
@@ -258,6 +290,8 @@ fn places_are_those_of_the_header() {
     assert_eq!(places("FERRYSPRIG_AHT_ANSWER_"), own(&aht));
     assert_eq!(places("FERRYSPRIG_PROFILE_ANSWER_"), own(&profile));
     assert_eq!(places("FERRYSPRIG_RULE_"), own(&rules));
+    assert_eq!(places("FERRYSPRIG_INDEX_ANSWER_"), own(&of_index));
+    assert_eq!(places("FERRYSPRIG_INDEX_ENTRY_"), own(&indexed));
 }
 
 #[test]

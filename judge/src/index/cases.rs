@@ -446,6 +446,14 @@ impl<'s> Indexes<'s> {
         self.reached.add("packets lost");
     }
 
+    /// Captures of any pieces alone.
+    pub fn run_mixed(&mut self, captures: usize) {
+        self.pieces.gather();
+        for _ in 0..captures {
+            self.mixed();
+        }
+    }
+
     pub fn run(&mut self, amounts: Amounts) {
         self.pieces.gather();
         self.shortest();

@@ -18,7 +18,7 @@ use Rattle.salvage.specs.Lent.{numbers, shown, roomsIn, salvaged, Holds,
 use Rattle.salvage.specs.declared.Answer.{Answer}
 use Rattle.salvage.proofs.Lent.{refusal-of, list-length, out-length}
 use Rattle.salvage.specs.Passed.{isSync, Passed}
-use Rattle.salvage.proofs.Unsynced.{syncRow, no-row, written-over, refused-there, row-there}
+use Rattle.salvage.proofs.Unsynced.{syncRow, no-row, written-over, refused-there, row-there, passed-inside}
 use Rattle.salvage.proofs.Parsed.{moves, ends-inside}
 
 -- ---- a step of the walk
@@ -209,13 +209,13 @@ module _ (capture : List ℕ) (rows₀ : List ℤ) (list₀ out₀ : List ℕ) w
           (skip capture rooms from (g .kept) (g .going) (to - (place + 1)) (next .left) (place + 1) after (some-room (omega (arith, more))) (next .enough)
           (subst (λ p. Passed capture (place + 1) p) (sym there) passed))
 
-      pub passes : {to : ℕ} → to ≤ length capture → Passed capture (place + 1) to → Going after list out done from to
-      passes {to} inside passed =
+      pub passes : {to : ℕ} → Passed capture (place + 1) to → Going after list out done from to
+      passes {to} passed =
           let past = skipped passed (decLe to (place + 1)) in
           record {
             kept = g .kept;
             left = past .left;
-            inside = inside;
+            inside = passed-inside passed (omega arith);
             enough = past .enough;
             going = g .going;
             holds = g .holds;

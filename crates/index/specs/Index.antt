@@ -56,6 +56,7 @@ isOver n = isShort n || isFull n
 abbrev pub over : (refusal reach : ℕ) (room : List ℤ) → Walk
 over refusal reach room = record { entries = []; refusal = refusal; reach = reach; room = room }
 
+infixr 20 _before_
 abbrev pub _before_ : List Entry → Walk → Walk
 es before w = record { entries = es ++ w .entries; refusal = w .refusal; reach = w .reach; room = w .room }
 
@@ -97,11 +98,18 @@ roomIn index = length index / entryWidth
 -- entry i of an index
 abbrev pub entryIn : (index : List ℕ) (i : ℕ) → Entry
 entryIn index i =
-    let number = λ k. getD index (i * entryWidth + k) 0 in
-    record { place = number 0; size = number 1; acmod = number 2; dialnorm = number 3; second = number 4 }
+    let at = i * entryWidth in
+    record {
+      place = getD index at 0;
+      size = getD index (at + 1) 0;
+      acmod = getD index (at + 2) 0;
+      dialnorm = getD index (at + 3) 0;
+      second = getD index (at + 4) 0;
+    }
 
+-- but for the place
 abbrev pub sameEntry : Entry → Entry → Bool
-sameEntry e f = (eqb (e .size) (f .size) && eqb (e .acmod) (f .acmod)) && (eqb (e .dialnorm) (f .dialnorm) && eqb (e .second) (f .second))
+sameEntry e f = eqb (e .size) (f .size) && (eqb (e .acmod) (f .acmod) && (eqb (e .dialnorm) (f .dialnorm) && eqb (e .second) (f .second)))
 
 -- Where the walk of a call begins, and the field room then; or 56.
 pub record Start : Type 0 where
@@ -139,9 +147,12 @@ extended index entries w =
     (cond (leb (entries + length (w .entries)) (roomIn index)) (entered index entries (w .entries)) (refused noRoom entries index))
     (refused (w .refusal) entries index)
 
+-- and the field room after it
+abbrev pub answeredBy : (index : List ℕ) (entries : ℕ) → Walk → (Answer × List ℕ) × List ℤ
+answeredBy index entries w = (extended index entries w, w .room)
+
 -- the answer to a call, and the index and the field room after it
 unfoldable pub indexed : (capture : List ℕ) (rows : List ℤ) (index : List ℕ) (entries : ℕ) → (Answer × List ℕ) × List ℤ
 indexed capture rows index entries =
     let s = begin capture rows index entries in
-    let w = walkFrom capture (s .place) (s .room) in
-    cond (eqb (s .refusal) 0) (extended index entries w, w .room) (refused (s .refusal) entries index, s .room)
+    cond (eqb (s .refusal) 0) (answeredBy index entries (walkFrom capture (s .place) (s .room))) (refused (s .refusal) entries index, s .room)

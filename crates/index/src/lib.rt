@@ -1,19 +1,19 @@
 // An index beside a capture: an entry for each of its frames, and more of them when bytes were appended.
 use syntax::ROW;
 use syntax::names::DIALNORM;
-use syntax::names::DIALNORM2;
 ghost use mathlib.Core.Path.{_≡_};
 ghost use mathlib.Core.Bool.{_&&_, cond};
 ghost use Prim.Native.Nat.{ℕ, _+_, _*_, _/_, _<_, _≤_};
 ghost use lib.Dec.{eqb, leb};
 ghost use lib.IntN.{pos};
 ghost use lib.ListN.{length};
+ghost use Rattle.syntax.specs.Names as Name;
 ghost use Rattle.ac3.specs.Later.{isShort};
 ghost use Rattle.ac3.specs.Promise.{Call, answerTo};
 ghost use Rattle.ac3.specs.RowBound.{mostRows};
 ghost use Rattle.rows.specs.Framed.{shortest};
 ghost use Rattle.rows.specs.Look.{valueIn};
-ghost use Rattle.index.specs.Index.{Start, begin, entryIn, entryOf, extended, indexed, roomIn, sameEntry, start, walkFrom};
+ghost use Rattle.index.specs.Index.{answeredBy, begin, entryIn, entryOf, indexed, roomIn, sameEntry, start, walkFrom};
 ghost use Rattle.index.specs.Filled.{filled, put};
 
 // The numbers of an entry.
@@ -38,8 +38,11 @@ const MOST_ROWS: usize = 4067;
 
 const SHORTEST: usize = 128;
 
-// A row's value is no larger.
-const LARGEST: usize = 0x7FFF_FFFF;
+// The second programme's name.
+const DIALNORM2: u8 = 20;
+
+// A row's value is smaller.
+const LARGEST: usize = 0xFFFF_FFFF;
 
 // A frame of the capture. The second dialnorm is that of the second programme, which is there where acmod is 0; else it is 0.
 pub struct Entry {
@@ -66,13 +69,13 @@ struct Begun {
 
 // The value of the first row of a name.
 fn level(rows: &[i32], count: usize, name: u8) -> usize
-    ensures { λ r. ⌜ (v : ℕ) → valueIn count name (now (rows .entry)) ≡ pos v → r ≡ v ⌝ }
+    ensures { λ r. ⌜ ((v : ℕ) → valueIn count name (now (rows .entry)) ≡ pos v → r ≡ v) ⌝ }
 {
     signed::clamp(rows::value(rows, count, name), LARGEST)
 }
 
 fn second_level(rows: &[i32], count: usize, acmod: u8) -> usize
-    ensures { λ r. ⌜ (v : ℕ) → valueIn count DIALNORM2 (now (rows .entry)) ≡ pos v → r ≡ cond (eqb acmod 0) v 0 ⌝ }
+    ensures { λ r. ⌜ ((v : ℕ) → valueIn count Name.dialnorm2 (now (rows .entry)) ≡ pos v → r ≡ cond (eqb acmod 0) v 0) ⌝ }
 {
     if acmod == 0 {
         return level(rows, count, DIALNORM2);
@@ -81,8 +84,8 @@ fn second_level(rows: &[i32], count: usize, acmod: u8) -> usize
 }
 
 // The entry of a frame, from what its parse answered and left in the room.
-fn entry(rows: &[i32], parsed: ac3::Answer, place: usize) -> Entry
-    ensures { λ r. ⌜ (c : Call) → c .place ≡ place → (parsed, now (rows .entry)) ≡ answerTo c → r ≡ entryOf c ⌝ }
+fn entry_of(rows: &[i32], parsed: ac3::Answer, place: usize) -> Entry
+    ensures { λ r. ⌜ ((c : Call) → c .place ≡ place → (parsed, now (rows .entry)) ≡ answerTo c → r ≡ entryOf c) ⌝ }
 {
     let count = parsed.rows;
     let summary = parsed.summary;
@@ -117,9 +120,16 @@ fn is_entry(index: &[usize], entries: usize, e: Entry) -> bool
     ensures { λ r. ⌜ r ≡ sameEntry e (entryIn (now (index .entry)) entries) ⌝ }
 {
     let at = entries * ENTRY;
-    let frame = e.size == index[at + 1] && e.acmod == index[at + 2];
-    let levels = e.dialnorm == index[at + 3] && e.second == index[at + 4];
-    frame && levels
+    if e.size != index[at + 1] {
+        return false;
+    }
+    if e.acmod != index[at + 2] {
+        return false;
+    }
+    if e.dialnorm != index[at + 3] {
+        return false;
+    }
+    e.second == index[at + 4]
 }
 
 // ---- the walk
@@ -162,7 +172,7 @@ fn fill(
             place = salvage::next_place(capture, place + 1);
             continue;
         }
-        put(index, done, entry(rows, parsed, place));
+        put(index, done, entry_of(rows, parsed, place));
         done += 1;
         let summary = parsed.summary;
         let header = summary.header;
@@ -179,7 +189,7 @@ fn fill(
 // Where the walk begins: at byte 0, or at the end of the last entry, if parsing at its place gives it.
 fn begin(capture: &[u8], rows: &mut [i32], index: &[usize], entries: usize) -> Begun
     ensures { λ r. ⌜ start (r .refusal) (r .place) (now (rows .exit)) ≡ begin (now (capture .entry)) (now (rows .entry)) (now (index .entry)) entries ⌝ }
-    ensures { λ r. ⌜ r .refusal ≡ 0 → (r .place ≤ length (now (capture .entry))) × (entries ≤ roomIn (now (index .entry))) ⌝ }
+    ensures { λ r. ⌜ (r .refusal ≡ 0 → (r .place ≤ length (now (capture .entry))) × (entries ≤ roomIn (now (index .entry)))) ⌝ }
 {
     if entries == 0 {
         return Begun {
@@ -202,7 +212,7 @@ fn begin(capture: &[u8], rows: &mut [i32], index: &[usize], entries: usize) -> B
             place: 0,
         };
     }
-    let e = entry(rows, parsed, place);
+    let e = entry_of(rows, parsed, place);
     if !is_entry(index, last, e) {
         return Begun {
             refusal: NOT_THERE,
@@ -231,7 +241,7 @@ fn extend(
     from: usize,
 ) -> Answer
     requires { ⌜ (from ≤ length (now capture)) × (entries ≤ roomIn (now index)) ⌝ }
-    ensures { λ r. ⌜ ((r, now (index .exit)), now (rows .exit)) ≡ (let w = walkFrom (now (capture .entry)) from (now (rows .entry)) in (extended (now (index .entry)) entries w, w .room)) ⌝ }
+    ensures { λ r. ⌜ ((r, now (index .exit)), now (rows .exit)) ≡ answeredBy (now (index .entry)) entries (walkFrom (now (capture .entry)) from (now (rows .entry))) ⌝ }
 {
     let room = index.len() / ENTRY;
     if is_ample(rows.len() / ROW, room - entries, capture.len() - from) {

@@ -65,10 +65,10 @@ module _ (capture : List ℕ) (rows : List ℤ) (index : List ℕ) (entries from
 
   pub ample : from ≤ length capture → entries ≤ roomIn index
       → leb mostRows (length rows / rowWidth) && leb ((length capture - from) / shortest) (roomIn index - entries) ≡ true
-      → filled index entries w ≡ answeredBy index entries w
-  ample inside old both =
+      → {told : (Answer × List ℕ) × List ℤ} → told ≡ filled index entries w → told ≡ answeredBy index entries w
+  ample inside old both is =
       let (fields, room) = both-true (leb mostRows (length rows / rowWidth)) (leb ((length capture - from) / shortest) (roomIn index - entries)) both in
-      all-fit index entries w (unstopped capture (length capture) from rows (leb-true mostRows (length rows / rowWidth) fields))
+      is ∙ all-fit index entries w (unstopped capture (length capture) from rows (leb-true mostRows (length rows / rowWidth) fields))
       (omega (arith, counted capture (length capture) from rows inside, leb-true ((length capture - from) / shortest) (roomIn index - entries) room))
 
   module _ {told : Answer} {index′ : List ℕ} {rows′ : List ℤ} (is : ((told, index′), rows′) ≡ filled index (roomIn index) w) where
@@ -99,14 +99,11 @@ module _ (capture : List ℕ) (rows : List ℤ) (index : List ℕ) (entries from
         ∙ too-many index entries w (sym refusal-is ∙ going) (omega (arith, entries-are))
 
     pub second : told .refusal ≡ 0 → entries ≤ roomIn index → told .entries - roomIn index ≤ roomIn index - entries
-        → filled index′ entries (walkFrom capture from rows′) ≡ answeredBy index entries w
-    second going old fit =
-        (λ i. filled (index-is i) entries (walkFrom capture from (rows-are i)))
+        → {again : (Answer × List ℕ) × List ℤ} → again ≡ filled index′ entries (walkFrom capture from rows′) → again ≡ answeredBy index entries w
+    second going old fit twice =
+        twice ∙ (λ i. filled (index-is i) entries (walkFrom capture from (rows-are i)))
         ∙ ap (filled index entries) (again capture (length capture) from rows)
         ∙ all-fit index entries w (sym refusal-is ∙ going) (omega (arith, entries-are))
-
-    pub still-room : entries ≤ roomIn index → entries ≤ roomIn index′
-    still-room old = rw index-is old
 
 -- ---- the whole call
 

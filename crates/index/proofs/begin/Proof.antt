@@ -28,9 +28,11 @@ another c =
     let judged = told .before .before in
     let read = judged .before .before in
     let old = read .before .before .before .before in
-    let parsed = read .before .parse .ensures .0 in
-    (other-there _ _ _ _ (old .before .if1 .left) (omega (arith, old .if2 .left)) parsed (judged .if3 .left) (told .entry-of .ensures _ refl parsed)
-    (sym (c .before .is-entry .ensures) ∙ not-true _ (c .if4 .taken)), λ z. absurd (omega arith))
+    let parsed = read .before .parse .ensures .0 in (
+      other-there _ _ _ _ (old .before .if1 .left) (omega (arith, old .if2 .left)) parsed (judged .if3 .left) (told .entry-of .ensures _ refl parsed)
+          (sym (c .before .is-entry .ensures) ∙ not-true _ (c .if4 .taken)),
+      λ z. absurd (omega arith),
+    )
 
 fits : tie.Need-add-t13
 fits c =
@@ -52,9 +54,10 @@ there c =
     let old = read .before .before .before .before in
     let parsed = read .before .parse .ensures .0 in
     let is = told .entry-of .ensures _ refl parsed in
-    let a = old .before .before .before .before .args in
-    (behind _ _ _ _ (old .before .if1 .left) (omega (arith, old .if2 .left)) parsed (judged .if3 .left) is (sym (same .before .is-entry .ensures) ∙ not-false _ (same .if4 .left)),
-    λ _. (inside (a .capture .now) (a .rows .now) (a .index .now) (a .entries) (old .before .if1 .left) (omega (arith, old .if2 .left)) parsed (judged .if3 .left) is, omega (arith, old .if2 .left)))
+    let a = old .before .before .before .before .args in (
+      behind _ _ _ _ (old .before .if1 .left) (omega (arith, old .if2 .left)) parsed (judged .if3 .left) is (sym (same .before .is-entry .ensures) ∙ not-false _ (same .if4 .left)),
+      λ _. (inside (a .capture .now) (a .rows .now) (a .index .now) (a .entries) (old .before .if1 .left) (omega (arith, old .if2 .left)) parsed (judged .if3 .left) is, omega (arith, old .if2 .left)),
+    )
 
 pub begin-spec : {M : Type 1} → statement M
 begin-spec =

@@ -3,7 +3,7 @@
 use mathlib.Core.Path.{_≡_, sym, _∙_}
 use native.Mathlib.Omega.{arith}
 use borrow.Author.Needs.{needs}
-use Rattle.index.proofs.Answered.{ample, entries-are, no-fields, no-room, second, still-room}
+use Rattle.index.proofs.Answered.{ample, entries-are, no-fields, no-room, second}
 use Rattle.index.proofs.extend.Statement.{statement}
 use Rattle.index.proofs.extend.Tie as tie
 
@@ -12,8 +12,7 @@ one-walk c =
     let tested = c .before .before .before .before .before .before in
     let entry = tested .before .before .before .before in
     let a = entry .args in
-    c .before .before .before .fill .ensures
-    ∙ ample (a .capture .now) (a .rows .now) (a .index .now) (a .entries) (a .from) (entry .pre .0) (entry .pre .1) (sym (tested .before .is-ample .ensures) ∙ tested .if1 .taken)
+    ample (a .capture .now) (a .rows .now) (a .index .now) (a .entries) (a .from) (entry .pre .0) (entry .pre .1) (sym (tested .before .is-ample .ensures) ∙ tested .if1 .taken) (c .before .before .before .fill .ensures)
 
 stopped : tie.Need-returns-2
 stopped c = no-fields _ _ _ _ _ (c .before .before .before .before .before .fill2 .ensures) (c .if2 .taken)
@@ -32,7 +31,7 @@ two-walks c =
     let counted = tested .before .before in
     let first = counted .before .before .before .before .before in
     let entry = first .before .before .before .before .before .before .before in
-    c .before .before .before .fill3 .ensures ∙ second _ _ _ _ _ (first .fill2 .ensures) (counted .if2 .left) (entry .pre .1) (tested .if3 .left)
+    second _ _ _ _ _ (first .fill2 .ensures) (counted .if2 .left) (entry .pre .1) (tested .if3 .left) (c .before .before .before .fill3 .ensures)
 
 pub extend-spec : {M : Type 1} → statement M
 extend-spec =

@@ -1,0 +1,4 @@
+pub mod Walks
+pub mod Loop
+pub mod Answered
+pub mod Begins

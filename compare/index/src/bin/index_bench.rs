@@ -1,8 +1,8 @@
-//! index_bench CAPTURE FRAMES PASSES [WAY]: makes or extends the index of a capture of so many frames, PASSES times, in every way or in one
-//! (so that its instructions can be counted), and prints the best pass of each. Says whether the ways that make it find the same.
+//! index_bench CAPTURE FRAMES PASSES [WAY]: makes the index of a capture of so many frames, PASSES times, in both ways or in one (so that its
+//! instructions can be counted), and prints the best pass of each. Says whether both find the same.
 //!
-//! The ways: `port`, the archive makes the index; `rust`, the same walk over the original parser; `extend`, the archive extends the index of
-//! all frames but the last by that frame. Captures are those of `CAPTURES`.
+//! The ways: `port`, the archive; `rust`, the same walk over the original parser. A third makes none: with `extend`, the archive extends the
+//! index of all frames of a clean capture but the last by that frame. Captures are those of `CAPTURES`.
 
 use compare_index::layout::{INDEX_ENTRY_NUMBERS, LEAST_BYTES, MOST_ROWS, ROW_NUMBERS};
 use compare_index::raw;
@@ -30,7 +30,12 @@ fn clean(name: &str, frames: usize) -> Vec<u8> {
     let file = kept.iter().find(|(of, _)| of == name);
     let stream = &file.expect("a file of frames").1;
     let length = ac3::parse(stream).expect("a frame").bytes;
-    stream.iter().copied().cycle().take(frames * length).collect()
+    stream
+        .iter()
+        .copied()
+        .cycle()
+        .take(frames * length)
+        .collect()
 }
 
 fn lost(name: &str, frames: usize) -> Vec<u8> {
@@ -111,7 +116,7 @@ fn main() {
         let same = index[..INDEX_ENTRY_NUMBERS * entries] == found;
         println!("the port finds the same as the original: {same}");
     }
-    if wanted("extend") {
+    if way.first().is_some_and(|only| only == "extend") {
         // All frames have one length, so the last but one is known, and no index need be made before.
         let length = capture.len() / frames;
         let last = capture.len() - 2 * length;

@@ -55,7 +55,7 @@ module _ (index : List ℕ) (entries : ℕ) (w : Walk) where
 
 -- ---- the first walk counts, and the second finds what it found
 
-both-true : (a b : Bool) → a && b ≡ true → (a ≡ true) × (b ≡ true)
+pub both-true : (a b : Bool) → a && b ≡ true → (a ≡ true) × (b ≡ true)
 both-true true b e = (refl, e)
 both-true false b e = let z : _≡_ {A = ℕ} 0 1 = cc in absurd (omega arith)
 

@@ -60,7 +60,7 @@ module _ (capture : List ℕ) (n place : ℕ) (room : List ℤ) where
 -- ---- the capture's end
 
 module _ (capture : List ℕ) where
-  nothing-there : (place : ℕ) (room : List ℤ) → length capture ≤ place → (answer capture place room .0 .refusal ≡ 1) × (answer capture place room .1 ≡ room)
+  pub nothing-there : (place : ℕ) (room : List ℤ) → length capture ≤ place → (answer capture place room .0 .refusal ≡ 1) × (answer capture place room .1 ≡ room)
   nothing-there place room h =
       let told = ap (λ s. answered (exec syncframe s (fresh room))) (drop-of-length-le capture h) ∙ sym (told-nothing room) in
       (ap (λ x. x .0 .refusal) told, ap (λ x. x .1) told)
@@ -160,6 +160,29 @@ module _ (capture : List ℕ) where
       go : (b : Bool) → isOver (answerTo c .0 .refusal) ≡ b → walk capture n (place + stride c) (answerTo c .1) .refusal ≡ 0 → walk capture (suc n) place room .refusal ≡ 0
       go true e later = ap (λ w. w .refusal) (stops-there capture n place room e) ∙ rw (ne-eqb (answerTo c .0 .refusal) 7 (row-bound .never-seven c h))
       go false e later = ap (λ w. w .refusal) (goes-on capture n place room e) ∙ later
+
+  -- one that is stopped is stopped by the field room
+  pub stop-number : (n place : ℕ) (room : List ℤ) → ¬ (walk capture n place room .refusal ≡ 0) → walk capture n place room .refusal ≡ noFields
+  unfolding walk
+  stop-number zero place room stop = absurd (stop refl)
+  stop-number (suc n) place room stop =
+      go (isOver (answer capture place room .0 .refusal)) refl (stop-number n (place + stride (call capture place room)) (answer capture place room .1))
+    where
+      c : Call
+      c = call capture place room
+
+      which : (b : Bool) → ¬ (cond b noFields 0 ≡ 0) → cond b noFields 0 ≡ noFields
+      which true not-zero = refl
+      which false not-zero = absurd (not-zero refl)
+
+      rest : Walk
+      rest = walk capture n (place + stride c) (answerTo c .1)
+
+      go : (b : Bool) → isOver (answerTo c .0 .refusal) ≡ b → (¬ (rest .refusal ≡ 0) → rest .refusal ≡ noFields) → walk capture (suc n) place room .refusal ≡ noFields
+      go true e later =
+          let is = ap (λ w. w .refusal) (stops-there capture n place room e) in
+          is ∙ which (isFull (answerTo c .0 .refusal)) (λ z. stop (is ∙ z))
+      go false e later = let is = ap (λ w. w .refusal) (goes-on capture n place room e) in is ∙ later (λ z. stop (is ∙ z))
 
 -- ---- of the room the length alone counts
 

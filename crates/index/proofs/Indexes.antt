@@ -15,7 +15,7 @@ use Rattle.ac3.specs.RowBound.{mostRows}
 use Rattle.syntax.specs.Numbers.{rowWidth}
 use Rattle.salvage.specs.Walk.{noFields}
 use Rattle.salvage.proofs.Parsed.{same-room}
-use Rattle.index.specs.Index.{entryWidth, numbersOf, entryOf, entryIn, sameEntry, Walk, walkFrom, walk, roomIn, notThere, noRoom, Start, start, after, begin, refused, entered, extended, answeredBy, indexed}
+use Rattle.index.specs.Index.{entryWidth, numbersOf, entryOf, entryIn, sameEntry, Walk, walkFrom, walk, roomIn, notThere, noRoom, Start, start, endsAt, after, begin, refused, entered, extended, answeredBy, indexed}
 use Rattle.index.specs.Indexes.{Right, isNumber, Holds, Indexes}
 use Rattle.index.specs.declared.Answer.{Answer}
 use Rattle.index.specs.declared.Entry.{Entry}
@@ -62,7 +62,7 @@ module _ (capture : List ℕ) (rows : List ℤ) (index : List ℕ) where
       c = call capture (last .place) rows
 
       there : n < roomIn index → (a b : Bool) → eqb (answerTo c .0 .refusal) 0 ≡ a → sameEntry (entryOf c) last ≡ b
-          → Begun (suc n) (cond (a && b) (start 0 (c .place + entryOf c .size) (answerTo c .1)) (start notThere 0 (answerTo c .1)))
+          → Begun (suc n) (cond (a && b) (start 0 (endsAt c) (answerTo c .1)) (start notThere 0 (answerTo c .1)))
       there inside true true ok same = record {
         numbered = λ n. absurd (n refl);
         room = λ _. omega arith;

@@ -1,17 +1,17 @@
 -- Where the walk of a call begins: the definition's cases, each from what the code has found there. Assumes nothing.
 use mathlib.Core.Bool.{true, false, cond, _&&_}
 use mathlib.Core.List.{List}
-use mathlib.Core.Path.{_≡_, refl, sym, ap, subst, _∙_}
+use mathlib.Core.Path.{_≡_, sym, ap, _∙_}
 use Prim.Native.Nat.{ℕ, suc, _+_, _-_, _≤_, _<_}
 use native.Mathlib.Omega.{arith}
-use borrow.Author.Tests.{lt-ltb, le-ltb, eq-eqb, ne-eqb}
-use lib.Dec.{eqb, ltb}
+use borrow.Author.Tests.{lt-ltb, le-ltb, ne-eqb}
+use lib.Dec.{eqb}
 use lib.IntN.{ℤ}
 use lib.ListN.{length, length-drop}
 use Rattle.ac3.specs.Promise.{Call, call, answerTo}
 use Rattle.ac3.specs.declared.Answer as parse
 use Rattle.rows.proofs.Framed.{accepted-framed}
-use Rattle.index.specs.Index.{entryOf, entryIn, roomIn, notThere, sameEntry, endsAt, Start, start, after, begin}
+use Rattle.index.specs.Index.{entryOf, entryIn, roomIn, notThere, sameEntry, endsAt, start, after, begin}
 use Rattle.index.specs.declared.Entry.{Entry}
 
 module _ (capture : List ℕ) (rows : List ℤ) (index : List ℕ) where

@@ -1,15 +1,14 @@
 -- Entries as numbers of an index, and what each entry of a walk is: the entry of a frame that parsing accepts there. Assumes nothing.
-use mathlib.Core.Bool.{Bool, true, false, cond, _&&_}
+use mathlib.Core.Bool.{Bool, true, false, cond}
 use mathlib.Core.List.{List, [], _∷_, _++_, append-assoc}
 use mathlib.Core.Path.{_≡_, refl, sym, ap, subst, _∙_}
-use Prim.Native.Nat.{ℕ, zero, suc, _+_, _-_, _*_, _≤_, _<_}
-use native.Mathlib.Decide.{decLe}
+use Prim.Native.Nat.{ℕ, zero, suc, _+_, _*_, _<_}
 use native.Mathlib.Omega.{arith}
 use borrow.Author.Tests.{eqb-true, eq-eqb, ne-eqb}
 use lib.Dec.{eqb}
-use lib.IntN.{ℤ, pos, natAbs}
-use lib.ListN.{length, take, drop, getD, length-append, take-append-drop}
-use lib.Seq.{sets, sets-eq, length-take-le, take-at, getD-append-add, getD-take}
+use lib.IntN.{ℤ, natAbs}
+use lib.ListN.{length, take, getD}
+use lib.Seq.{getD-append-add, getD-take}
 use Rattle.syntax.specs.Names as Name
 use Rattle.ac3.specs.Frame.{answer}
 use Rattle.ac3.specs.Promise.{Call, call, listed, answerTo, Accepted}

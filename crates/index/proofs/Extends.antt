@@ -1,40 +1,30 @@
 -- Extending an index equals making it afresh: at each place that the shorter capture's walk passes, the longer one's does the same, and from
 -- the last frame's end on it steps over what was no frame before. Assumes nothing.
-use mathlib.Core.Bool.{Bool, true, false, cond, _||_, _&&_}
-use mathlib.Core.List.{List, [], _∷_, _++_, append-assoc, append-nil}
+use mathlib.Core.Bool.{Bool, true, false, cond, _&&_}
+use mathlib.Core.List.{List, [], _∷_, _++_, append-nil}
 use mathlib.Core.Path.{_≡_, refl, sym, ap, subst, _∙_}
-use Prim.Native.Nat.{ℕ, zero, suc, _+_, _-_, _*_, _/_, _≤_, _<_}
+use Prim.Native.Nat.{ℕ, zero, suc, _+_, _*_, _≤_}
 use native.Mathlib.Omega.{arith}
 use borrow.Author.Tests.{eqb-true, eqb-false, eq-eqb, lt-ltb, leb-true}
-use lib.Dec.{eqb, leb, ltb}
+use lib.Dec.{eqb, leb}
 use lib.IntN.{ℤ}
-use lib.ListN.{length, take, drop, getD, length-append, take-append-drop}
+use lib.ListN.{length, take, drop, length-append, take-append-drop}
 use lib.Seq.{sets, take-all, take-at}
 use Rattle.naturals.proofs.Stored.{sets-append}
 use Rattle.writer.proofs.Written.{in-front}
 use Rattle.ac3.specs.Frame.{answer}
 use Rattle.ac3.specs.Later.{isShort}
-use Rattle.ac3.specs.Promise.{Call, call, answerTo, Accepted}
+use Rattle.ac3.specs.Promise.{Call, call, answerTo}
 use Rattle.ac3.proofs.Later.{later-bytes}
-use Rattle.salvage.specs.Walk.{isFull, noFields}
 use Rattle.salvage.proofs.Parsed.{same-room}
-use Rattle.index.specs.Index.{entryWidth, numbers, numbersOf, entryOf, entryIn, sameEntry, isOver, over, _before_, met, stride, Walk, walk, walkFrom, roomIn, noRoom, notThere, Start, start, after, begin, refused, entered, extended, answeredBy, indexed}
-use Rattle.index.specs.Indexes.{told, made, Made, Extended, Extends}
+use Rattle.index.specs.Index.{entryWidth, numbers, numbersOf, entryOf, entryIn, sameEntry, isOver, _before_, met, stride, Walk, walk, walkFrom, roomIn, noRoom, notThere, start, after, begin, refused, entered, extended, answeredBy, indexed}
+use Rattle.index.specs.Indexes.{told, Made, Extends}
 use Rattle.index.specs.declared.Answer.{Answer}
 use Rattle.index.specs.declared.Entry.{Entry}
 use Rattle.index.proofs.Answered.{walked}
 use Rattle.index.proofs.Entries.{Every, every-at, Is, all-are, unmoved, length-numbers, numbers-append, moved, by-answer, same-as-itself}
 use Rattle.index.proofs.Indexes.{indexes}
-use Rattle.index.proofs.Walks.{stops-there, goes-on, at-end, inside-there, strides, stays-inside, enough, bare, same-frame, same-entry, same-walk}
-
--- ---- what does not end the walk does not change when bytes come
-
-not-short : (n : ℕ) → isOver n ≡ false → isShort n ≡ false
-not-short n on = go (isShort n) on
-  where
-    go : (b : Bool) → b || isFull n ≡ false → b ≡ false
-    go true e = e
-    go false e = refl
+use Rattle.index.proofs.Walks.{never, not-short, stops-there, goes-on, at-end, strides, stays-inside, enough, bare, same-frame, same-entry, same-walk}
 
 -- the end of the last frame, or the given place
 abbrev endOf : (place : ℕ) → List Entry → ℕ
@@ -48,13 +38,11 @@ module _ (capture more : List ℕ) where
   longer-length : length longer ≡ length capture + length more
   longer-length = length-append capture more
 
+  -- what does not end the walk does not change when bytes come
   stays : (place : ℕ) (room : List ℤ) → isOver (answer capture place room .0 .refusal) ≡ false → answer longer place room ≡ answer capture place room
   stays place room on =
       later-bytes .stays (call capture place room) more
       (λ one. never (sym (ap isShort one) ∙ not-short (answer capture place room .0 .refusal) on)) (λ four. never (sym (ap isShort four) ∙ not-short (answer capture place room .0 .refusal) on))
-    where
-      never : true ≡ false → ⊥
-      never e = let z : _≡_ {A = ℕ} 0 1 = ap (λ b. cond b 0 1) e in omega (arith, z)
 
   -- and so with another room of that length
   module _ (place : ℕ) (room other : List ℤ) (long : length other ≡ length room) (on : isOver (answer capture place room .0 .refusal) ≡ false) where

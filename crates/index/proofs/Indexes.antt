@@ -1,6 +1,6 @@
 -- What holds of every call: its answer is one of four, and each is looked at by itself. Assumes nothing.
 use mathlib.Core.Bool.{Bool, true, false, cond, _&&_}
-use mathlib.Core.List.{List, [], _∷_, _++_, append-assoc}
+use mathlib.Core.List.{List, _++_, append-assoc}
 use mathlib.Core.Path.{_≡_, refl, sym, ap, subst, _∙_}
 use Prim.Native.Nat.{ℕ, zero, suc, _+_, _-_, _*_, _/_, _≤_, _<_}
 use native.Mathlib.Decide.{decLe}
@@ -10,13 +10,13 @@ use lib.Dec.{eqb, leb, ltb}
 use lib.IntN.{ℤ}
 use lib.ListN.{length, take, drop, length-append}
 use lib.Seq.{sets, sets-eq, length-sets, length-take-le, take-at, drop-at}
-use Rattle.ac3.specs.Promise.{Call, call, answerTo, Accepted}
+use Rattle.ac3.specs.Promise.{Call, call, answerTo}
 use Rattle.ac3.specs.RowBound.{mostRows}
 use Rattle.syntax.specs.Numbers.{rowWidth}
 use Rattle.salvage.specs.Walk.{noFields}
 use Rattle.salvage.proofs.Parsed.{same-room}
-use Rattle.index.specs.Index.{entryWidth, numbersOf, entryOf, entryIn, sameEntry, Walk, walkFrom, walk, roomIn, notThere, noRoom, Start, start, endsAt, after, begin, refused, entered, extended, answeredBy, indexed}
-use Rattle.index.specs.Indexes.{Right, isNumber, Holds, Indexes}
+use Rattle.index.specs.Index.{entryWidth, numbersOf, entryOf, entryIn, sameEntry, Walk, walkFrom, roomIn, notThere, noRoom, Start, start, endsAt, after, begin, refused, entered, extended, answeredBy, indexed}
+use Rattle.index.specs.Indexes.{isNumber, Holds, Indexes}
 use Rattle.index.specs.declared.Answer.{Answer}
 use Rattle.index.specs.declared.Entry.{Entry}
 use Rattle.index.proofs.Answered.{both-true}

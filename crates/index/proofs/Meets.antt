@@ -1,12 +1,12 @@
 -- The entries are the frames that a salvage meets before the first place that is refused with 1 or 4: until there both walks stand at the same
 -- places with rooms of the same length. Assumes nothing.
-use mathlib.Core.Bool.{Bool, true, false, cond, _||_, _&&_}
+use mathlib.Core.Bool.{Bool, true, false, cond, _||_}
 use mathlib.Core.List.{List, [], _∷_, _++_, map, append-assoc, append-nil}
 use mathlib.Core.Path.{_≡_, refl, sym, ap, subst, _∙_}
-use Prim.Native.Nat.{ℕ, zero, suc, _+_, _-_, _≤_, _<_}
+use Prim.Native.Nat.{ℕ, zero, suc, _+_, _≤_, _<_}
 use native.Mathlib.Decide.{decLe}
 use native.Mathlib.Omega.{arith}
-use borrow.Author.Tests.{eqb-true, eqb-false, eq-eqb, ne-eqb, lt-ltb}
+use borrow.Author.Tests.{eqb-true, eqb-false, eq-eqb, lt-ltb}
 use lib.Dec.{eqb, leb, ltb}
 use lib.IntN.{ℤ}
 use lib.ListN.{length, drop, getD, length-drop}
@@ -15,19 +15,15 @@ use Rattle.ac3.specs.Frame.{answer}
 use Rattle.ac3.specs.Later.{isShort}
 use Rattle.ac3.specs.Promise.{Call, call, answerTo}
 use Rattle.ac3.specs.declared.Answer as parse
-use Rattle.rows.proofs.Framed.{accepted-framed}
 use Rattle.salvage.specs.Salvages.{answerAt, Each}
-use Rattle.salvage.specs.Walk.{frame, gap, Rooms, Kept, nothing, noOutput, noEntry, noFields, refuse, with, _then_, closeGap, keepFrame, isFull, isMet, bytesAt, begun, meet, onward, goes, step, salvage, walked}
+use Rattle.salvage.specs.Walk.{frame, gap, Rooms, Kept, noOutput, noEntry, noFields, refuse, with, closeGap, keepFrame, isFull, isMet, bytesAt, begun, meet, onward, step, salvage, walked}
 use Rattle.salvage.specs.Walk as salvage
 use Rattle.salvage.proofs.Loop.{stays, refused-over, ended-over, unmet-at-seven, accepted-there}
 use Rattle.salvage.proofs.Parsed.{ends-inside, same-answer, same-room}
-use Rattle.index.specs.Index.{entryOf, isOver, over, _before_, met, stride, Walk, walk, walkFrom}
-use Rattle.index.specs.Indexes.{framesIn, Inside, Meets, MeetsFrames}
+use Rattle.index.specs.Index.{entryOf, isOver, _before_, met, stride, Walk, walk, walkFrom}
+use Rattle.index.specs.Indexes.{framesIn, Inside, MeetsFrames}
 use Rattle.index.specs.declared.Entry.{Entry}
-use Rattle.index.proofs.Walks.{stops-there, goes-on, at-end, nothing-there, inside-there, strides, stays-inside}
-
-never : {P : Type 0} → true ≡ false → P
-never e = let z : _≡_ {A = ℕ} 0 1 = ap (λ b. cond b 0 1) e in absurd (omega (arith, z))
+use Rattle.index.proofs.Walks.{never, not-short, stops-there, goes-on, nothing-there, inside-there, strides}
 
 over-of : (n : ℕ) → isOver n ≡ true → ¬ (n ≡ 7) → isShort n ≡ true
 over-of n is not-full = go (isShort n) is
@@ -35,13 +31,6 @@ over-of n is not-full = go (isShort n) is
     go : (b : Bool) → b || isFull n ≡ true → b ≡ true
     go true e = refl
     go false e = absurd (not-full (eqb-true n 7 e))
-
-not-short : (n : ℕ) → isOver n ≡ false → isShort n ≡ false
-not-short n on = go (isShort n) on
-  where
-    go : (b : Bool) → b || isFull n ≡ false → b ≡ false
-    go true e = e
-    go false e = refl
 
 unmet-zero : (n : ℕ) → isMet n ≡ false → eqb n 0 ≡ false
 unmet-zero n un = go (eqb n 0) un

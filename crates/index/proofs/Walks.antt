@@ -6,7 +6,7 @@ use mathlib.Core.Path.{_≡_, refl, sym, ap, subst, _∙_}
 use Prim.Native.Nat.{ℕ, zero, suc, _+_, _-_, _*_, _/_, _≤_, _<_}
 use native.Mathlib.Decide.{decLe}
 use native.Mathlib.Omega.{arith}
-use borrow.Author.Tests.{eqb-true, eqb-false, eq-eqb, ne-eqb}
+use borrow.Author.Tests.{eqb-true, ne-eqb}
 use lib.Dec.{eqb}
 use lib.IntN.{ℤ, pos}
 use lib.ListN.{length, drop, replicate, length-append, length-drop, length-replicate, drop-of-length-le}
@@ -16,7 +16,7 @@ use Rattle.syntax.specs.Place.{exec, fresh, flatten}
 use Rattle.syntax.specs.Run.{rowsOf}
 use Rattle.ac3.specs.Frame.{syncframe, answered, answer}
 use Rattle.ac3.specs.Later.{isShort}
-use Rattle.ac3.specs.Promise.{Call, call, input, roomFor, listed, answerTo, Accepted}
+use Rattle.ac3.specs.Promise.{Call, call, listed, answerTo}
 use Rattle.ac3.specs.RowBound.{mostRows}
 use Rattle.ac3.specs.declared.Answer as parse
 use Rattle.ac3.proofs.Promise.{promised}
@@ -27,11 +27,18 @@ use Rattle.rows.specs.Framed.{shortest, SameFrame}
 use Rattle.rows.proofs.Framed.{accepted-framed, rows-count}
 use Rattle.salvage.specs.Walk.{noFields, isFull}
 use Rattle.salvage.proofs.Parsed.{ends-inside, same-room}
-use Rattle.index.specs.Index.{entryOf, Walk, isOver, over, _before_, met, stride, walk, walkFrom}
-use Rattle.index.specs.declared.Entry.{Entry}
+use Rattle.index.specs.Index.{entryOf, Walk, isOver, over, _before_, met, stride, walk}
 
-never : true ≡ false → ⊥
-never e = let z : _≡_ {A = ℕ} 0 1 = ap (λ b. cond b 0 1) e in omega (arith, z)
+pub never : {P : Type 0} → true ≡ false → P
+never e = let z : _≡_ {A = ℕ} 0 1 = ap (λ b. cond b 0 1) e in absurd (omega (arith, z))
+
+-- what does not end the walk is not too short
+pub not-short : (n : ℕ) → isOver n ≡ false → isShort n ≡ false
+not-short n on = go (isShort n) on
+  where
+    go : (b : Bool) → b || isFull n ≡ false → b ≡ false
+    go true e = e
+    go false e = refl
 
 -- ---- one step
 
@@ -75,7 +82,7 @@ module _ (capture : List ℕ) where
   inside-there place room on = go (decLe (length capture) place)
     where
       go : Dec (length capture ≤ place) → place < length capture
-      go (Dec.yes h) = absurd (never (sym (ap isOver (nothing-there place room h .0)) ∙ on))
+      go (Dec.yes h) = never (sym (ap isOver (nothing-there place room h .0)) ∙ on)
       go (Dec.no h) = omega arith
 
 -- ---- where a step that goes on leads to

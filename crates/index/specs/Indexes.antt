@@ -11,7 +11,7 @@ use lib.ListN.{length, take, drop, getD}
 use Rattle.syntax.specs.Names as Name
 use Rattle.syntax.specs.Numbers.{rowWidth}
 use Rattle.ac3.specs.Later.{isShort}
-use Rattle.ac3.specs.Promise.{Call, call, listed, answerTo, Accepted}
+use Rattle.ac3.specs.Promise.{call, listed, answerTo, Accepted}
 use Rattle.ac3.specs.RowBound.{mostRows}
 use Rattle.rows.specs.Found.{valueOf}
 use Rattle.rows.specs.Framed.{frameBytesOf}

@@ -1,5 +1,5 @@
 -- `index::fill` meets its contract: what is left to walk from the loop's place on fills in what the whole walk does. Assumes nothing.
-use mathlib.Core.Path.{_≡_, refl, sym, _∙_}
+use mathlib.Core.Path.{refl, sym, _∙_}
 use Prim.Native.Nat.{_-_}
 use native.Mathlib.Omega.{arith}
 use borrow.Author.Needs.{needs}

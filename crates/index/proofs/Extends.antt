@@ -18,7 +18,7 @@ use Rattle.ac3.specs.Promise.{Call, call, answerTo}
 use Rattle.ac3.proofs.Later.{later-bytes}
 use Rattle.salvage.proofs.Parsed.{same-room}
 use Rattle.index.specs.Index.{entryWidth, numbers, numbersOf, entryOf, entryIn, sameEntry, isOver, _before_, met, stride, Walk, walk, walkFrom, roomIn, noRoom, notThere, start, after, begin, refused, entered, extended, answeredBy, indexed}
-use Rattle.index.specs.Indexes.{told, Made, Extends}
+use Rattle.index.specs.Indexes.{told, Made, Extends, ListsThem}
 use Rattle.index.specs.declared.Answer.{Answer}
 use Rattle.index.specs.declared.Entry.{Entry}
 use Rattle.index.proofs.Answered.{walked}
@@ -289,6 +289,9 @@ front {capture} {rows} {index} {n} m = (was .going, record { count = count; fits
     numbers-there =
         ap (take (n * entryWidth)) (in-front (numbersOf (w .entries)) (m .lent) (omega (arith, length-numbers (w .entries), was .fits)))
         ∙ take-at (numbersOf (w .entries)) _ (n * entryWidth) (omega (arith, length-numbers (w .entries), count))
+
+pub lists-them : ListsThem
+lists-them capture rows index n m = let (going, there) = front m in (going, there .same)
 
 pub extends : Extends
 extends capture more rows later index n long m = record {

@@ -18,7 +18,7 @@ use Rattle.rows.specs.Framed.{frameBytesOf}
 use Rattle.salvage.specs.Salvages.{answerAt, Each}
 use Rattle.salvage.specs.Walk.{noFields}
 use Rattle.salvage.specs.Walk as salvage
-use Rattle.index.specs.Index.{entryWidth, roomIn, entryIn, noRoom, notThere, Walk, walkFrom, indexed}
+use Rattle.index.specs.Index.{entryWidth, numbersOf, roomIn, entryIn, noRoom, notThere, Walk, walkFrom, indexed}
 use Rattle.index.specs.declared.Answer.{Answer}
 use Rattle.index.specs.declared.Entry.{Entry}
 
@@ -117,3 +117,9 @@ pub record Meets (capture : List ℕ) (rows : List ℤ) (w : Walk) : Type 0 wher
 -- of every walk from byte 0 that was not stopped by the field room
 abbrev pub MeetsFrames : Type 0
 MeetsFrames = (capture : List ℕ) (rows : List ℤ) → walkFrom capture 0 rows .refusal ≡ 0 → Meets capture rows (walkFrom capture 0 rows)
+
+-- and what it met are the numbers in front of every index that was made afresh, or in steps
+abbrev pub ListsThem : Type 0
+ListsThem =
+    (capture : List ℕ) (rows : List ℤ) (index : List ℕ) (entries : ℕ) → Made capture rows index entries
+    → (walkFrom capture 0 rows .refusal ≡ 0) × (take (entries * entryWidth) index ≡ numbersOf (walkFrom capture 0 rows .entries))

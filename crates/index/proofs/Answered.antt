@@ -1,11 +1,11 @@
 -- What a walk that was filled in answers: with room for all it is the answer to the call, and with no room it counts. Assumes nothing.
 use mathlib.Core.Bool.{Bool, true, false, cond, _&&_}
-use mathlib.Core.List.{List, [], _∷_, _++_}
+use mathlib.Core.List.{List, [], _∷_}
 use mathlib.Core.Path.{_≡_, refl, sym, ap, _∙_}
 use Prim.Native.Nat.{ℕ, _+_, _-_, _*_, _/_, _≤_, _<_}
 use native.Mathlib.Omega.{arith}
 use borrow.Author.Tests.{lt-ltb, le-ltb, le-leb, lt-leb, leb-true, eq-eqb, ne-eqb}
-use lib.Dec.{eqb, leb, ltb}
+use lib.Dec.{eqb, leb}
 use lib.IntN.{ℤ}
 use lib.ListN.{length}
 use lib.Seq.{sets, length-sets}
@@ -14,7 +14,7 @@ use Rattle.syntax.specs.Numbers.{rowWidth}
 use Rattle.ac3.specs.RowBound.{mostRows}
 use Rattle.rows.specs.Framed.{shortest}
 use Rattle.index.specs.Filled.{put, puts, filled}
-use Rattle.index.specs.Index.{entryWidth, numbers, numbersOf, roomIn, noRoom, Walk, walkFrom, Start, start, begin, refused, entered, extended, answeredBy, indexed}
+use Rattle.index.specs.Index.{entryWidth, numbers, numbersOf, roomIn, noRoom, Walk, walkFrom, Start, start, begin, refused, extended, answeredBy, indexed}
 use Rattle.index.specs.declared.Answer.{Answer}
 use Rattle.index.specs.declared.Entry.{Entry}
 use Rattle.index.proofs.Walks.{counted, unstopped, again}
@@ -55,7 +55,7 @@ module _ (index : List ℕ) (entries : ℕ) (w : Walk) where
 
 -- ---- the first walk counts, and the second finds what it found
 
-both-true : (a b : Bool) → a && b ≡ true → (a ≡ true) × (b ≡ true)
+pub both-true : (a b : Bool) → a && b ≡ true → (a ≡ true) × (b ≡ true)
 both-true true b e = (refl, e)
 both-true false b e = let z : _≡_ {A = ℕ} 0 1 = cc in absurd (omega arith)
 

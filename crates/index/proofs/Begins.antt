@@ -1,17 +1,17 @@
 -- Where the walk of a call begins: the definition's cases, each from what the code has found there. Assumes nothing.
 use mathlib.Core.Bool.{true, false, cond, _&&_}
 use mathlib.Core.List.{List}
-use mathlib.Core.Path.{_≡_, refl, sym, ap, subst, _∙_}
+use mathlib.Core.Path.{_≡_, sym, ap, _∙_}
 use Prim.Native.Nat.{ℕ, suc, _+_, _-_, _≤_, _<_}
 use native.Mathlib.Omega.{arith}
-use borrow.Author.Tests.{lt-ltb, le-ltb, eq-eqb, ne-eqb}
-use lib.Dec.{eqb, ltb}
+use borrow.Author.Tests.{lt-ltb, le-ltb, ne-eqb}
+use lib.Dec.{eqb}
 use lib.IntN.{ℤ}
 use lib.ListN.{length, length-drop}
 use Rattle.ac3.specs.Promise.{Call, call, answerTo}
 use Rattle.ac3.specs.declared.Answer as parse
 use Rattle.rows.proofs.Framed.{accepted-framed}
-use Rattle.index.specs.Index.{entryOf, entryIn, roomIn, notThere, sameEntry, Start, start, after, begin}
+use Rattle.index.specs.Index.{entryOf, entryIn, roomIn, notThere, sameEntry, endsAt, start, after, begin}
 use Rattle.index.specs.declared.Entry.{Entry}
 
 module _ (capture : List ℕ) (rows : List ℤ) (index : List ℕ) where
@@ -48,20 +48,20 @@ module _ (capture : List ℕ) (rows : List ℤ) (index : List ℕ) where
       refused-there not-zero =
           let refused : eqb (answerTo c .0 .refusal) 0 ≡ false = ne-eqb (answerTo c .0 .refusal) 0 (λ z. not-zero (sym refusal-is ∙ z)) in
           ap (start notThere 0) rows-are
-          ∙ sym (ap (λ b. cond (b && sameEntry (entryOf c) last) (start 0 (c .place + entryOf c .size) (answerTo c .1)) (start notThere 0 (answerTo c .1))) refused)
+          ∙ sym (ap (λ b. cond (b && sameEntry (entryOf c) last) (start 0 (endsAt c) (answerTo c .1)) (start notThere 0 (answerTo c .1))) refused)
           ∙ at-last
 
       module _ (ok : a .refusal ≡ 0) {e : Entry} (is : e ≡ entryOf c) where
         pub other-there : sameEntry e last ≡ false → start notThere 0 rows′ ≡ begin capture rows index entries
         other-there other =
             let unlike : sameEntry (entryOf c) last ≡ false = ap (λ e. sameEntry e last) (sym is) ∙ other in
-            ap (start notThere 0) rows-are ∙ sym (λ i. cond (eqb ((refusal-is ∙ ok) i) 0 && unlike i) (start 0 (c .place + entryOf c .size) (answerTo c .1)) (start notThere 0 (answerTo c .1))) ∙ at-last
+            ap (start notThere 0) rows-are ∙ sym (λ i. cond (eqb ((refusal-is ∙ ok) i) 0 && unlike i) (start 0 (endsAt c) (answerTo c .1)) (start notThere 0 (answerTo c .1))) ∙ at-last
 
         pub behind : sameEntry e last ≡ true → start 0 (last .place + e .size) rows′ ≡ begin capture rows index entries
         behind same =
             let alike : sameEntry (entryOf c) last ≡ true = ap (λ e. sameEntry e last) (sym is) ∙ same in
             (λ i. start 0 (last .place + is i .size) (rows-are i))
-            ∙ sym (λ i. cond (eqb ((refusal-is ∙ ok) i) 0 && alike i) (start 0 (c .place + entryOf c .size) (answerTo c .1)) (start notThere 0 (answerTo c .1))) ∙ at-last
+            ∙ sym (λ i. cond (eqb ((refusal-is ∙ ok) i) 0 && alike i) (start 0 (endsAt c) (answerTo c .1)) (start notThere 0 (answerTo c .1))) ∙ at-last
 
         pub inside : last .place + e .size ≤ length capture
         inside =

@@ -6,7 +6,7 @@ use mathlib.Core.Path.{_≡_, refl, sym, ap, subst, _∙_}
 use Prim.Native.Nat.{ℕ, zero, suc, _+_, _-_, _*_, _/_, _≤_, _<_}
 use native.Mathlib.Decide.{decLe}
 use native.Mathlib.Omega.{arith}
-use borrow.Author.Tests.{eqb-true, eqb-false, eq-eqb, ne-eqb}
+use borrow.Author.Tests.{eqb-true, ne-eqb}
 use lib.Dec.{eqb}
 use lib.IntN.{ℤ, pos}
 use lib.ListN.{length, drop, replicate, length-append, length-drop, length-replicate, drop-of-length-le}
@@ -16,7 +16,7 @@ use Rattle.syntax.specs.Place.{exec, fresh, flatten}
 use Rattle.syntax.specs.Run.{rowsOf}
 use Rattle.ac3.specs.Frame.{syncframe, answered, answer}
 use Rattle.ac3.specs.Later.{isShort}
-use Rattle.ac3.specs.Promise.{Call, call, input, roomFor, listed, answerTo, Accepted}
+use Rattle.ac3.specs.Promise.{Call, call, listed, answerTo}
 use Rattle.ac3.specs.RowBound.{mostRows}
 use Rattle.ac3.specs.declared.Answer as parse
 use Rattle.ac3.proofs.Promise.{promised}
@@ -27,11 +27,18 @@ use Rattle.rows.specs.Framed.{shortest, SameFrame}
 use Rattle.rows.proofs.Framed.{accepted-framed, rows-count}
 use Rattle.salvage.specs.Walk.{noFields, isFull}
 use Rattle.salvage.proofs.Parsed.{ends-inside, same-room}
-use Rattle.index.specs.Index.{entryOf, Walk, isOver, over, _before_, met, stride, walk, walkFrom}
-use Rattle.index.specs.declared.Entry.{Entry}
+use Rattle.index.specs.Index.{entryOf, Walk, isOver, over, _before_, met, stride, walk}
 
-never : true ≡ false → ⊥
-never e = let z : _≡_ {A = ℕ} 0 1 = ap (λ b. cond b 0 1) e in omega (arith, z)
+pub never : {P : Type 0} → true ≡ false → P
+never e = let z : _≡_ {A = ℕ} 0 1 = ap (λ b. cond b 0 1) e in absurd (omega (arith, z))
+
+-- what does not end the walk is not too short
+pub not-short : (n : ℕ) → isOver n ≡ false → isShort n ≡ false
+not-short n on = go (isShort n) on
+  where
+    go : (b : Bool) → b || isFull n ≡ false → b ≡ false
+    go true e = e
+    go false e = refl
 
 -- ---- one step
 
@@ -60,7 +67,7 @@ module _ (capture : List ℕ) (n place : ℕ) (room : List ℤ) where
 -- ---- the capture's end
 
 module _ (capture : List ℕ) where
-  nothing-there : (place : ℕ) (room : List ℤ) → length capture ≤ place → (answer capture place room .0 .refusal ≡ 1) × (answer capture place room .1 ≡ room)
+  pub nothing-there : (place : ℕ) (room : List ℤ) → length capture ≤ place → (answer capture place room .0 .refusal ≡ 1) × (answer capture place room .1 ≡ room)
   nothing-there place room h =
       let told = ap (λ s. answered (exec syncframe s (fresh room))) (drop-of-length-le capture h) ∙ sym (told-nothing room) in
       (ap (λ x. x .0 .refusal) told, ap (λ x. x .1) told)
@@ -75,7 +82,7 @@ module _ (capture : List ℕ) where
   inside-there place room on = go (decLe (length capture) place)
     where
       go : Dec (length capture ≤ place) → place < length capture
-      go (Dec.yes h) = absurd (never (sym (ap isOver (nothing-there place room h .0)) ∙ on))
+      go (Dec.yes h) = never (sym (ap isOver (nothing-there place room h .0)) ∙ on)
       go (Dec.no h) = omega arith
 
 -- ---- where a step that goes on leads to
@@ -160,6 +167,29 @@ module _ (capture : List ℕ) where
       go : (b : Bool) → isOver (answerTo c .0 .refusal) ≡ b → walk capture n (place + stride c) (answerTo c .1) .refusal ≡ 0 → walk capture (suc n) place room .refusal ≡ 0
       go true e later = ap (λ w. w .refusal) (stops-there capture n place room e) ∙ rw (ne-eqb (answerTo c .0 .refusal) 7 (row-bound .never-seven c h))
       go false e later = ap (λ w. w .refusal) (goes-on capture n place room e) ∙ later
+
+  -- one that is stopped is stopped by the field room
+  pub stop-number : (n place : ℕ) (room : List ℤ) → ¬ (walk capture n place room .refusal ≡ 0) → walk capture n place room .refusal ≡ noFields
+  unfolding walk
+  stop-number zero place room stop = absurd (stop refl)
+  stop-number (suc n) place room stop =
+      go (isOver (answer capture place room .0 .refusal)) refl (stop-number n (place + stride (call capture place room)) (answer capture place room .1))
+    where
+      c : Call
+      c = call capture place room
+
+      which : (b : Bool) → ¬ (cond b noFields 0 ≡ 0) → cond b noFields 0 ≡ noFields
+      which true not-zero = refl
+      which false not-zero = absurd (not-zero refl)
+
+      rest : Walk
+      rest = walk capture n (place + stride c) (answerTo c .1)
+
+      go : (b : Bool) → isOver (answerTo c .0 .refusal) ≡ b → (¬ (rest .refusal ≡ 0) → rest .refusal ≡ noFields) → walk capture (suc n) place room .refusal ≡ noFields
+      go true e later =
+          let is = ap (λ w. w .refusal) (stops-there capture n place room e) in
+          is ∙ which (isFull (answerTo c .0 .refusal)) (λ z. stop (is ∙ z))
+      go false e later = let is = ap (λ w. w .refusal) (goes-on capture n place room e) in is ∙ later (λ z. stop (is ∙ z))
 
 -- ---- of the room the length alone counts
 

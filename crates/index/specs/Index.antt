@@ -120,11 +120,15 @@ pub record Start : Type 0 where
 abbrev pub start : (refusal place : ℕ) (room : List ℤ) → Start
 start refusal place room = record { refusal = refusal; place = place; room = room }
 
+-- the byte after a frame
+abbrev pub endsAt : Call → ℕ
+endsAt c = c .place + entryOf c .size
+
 -- from the end of the last entry, if parsing at its place gives that entry
 abbrev pub after : Call → Entry → Start
 after c last =
     cond (eqb (answerTo c .0 .refusal) 0 && sameEntry (entryOf c) last)
-    (start 0 (c .place + entryOf c .size) (answerTo c .1))
+    (start 0 (endsAt c) (answerTo c .1))
     (start notThere 0 (answerTo c .1))
 
 unfoldable pub begin : (capture : List ℕ) (rows : List ℤ) (index : List ℕ) (entries : ℕ) → Start

@@ -6,7 +6,7 @@ ghost use lib.ListN.{length};
 ghost use lib.Seq.{sets};
 ghost use Rattle.salvage.specs.Walk.{entryWidth, closeGap, isMet, keepFrame, meet};
 ghost use Rattle.salvage.specs.Lent.{Does, salvaged};
-ghost use Rattle.salvage.specs.Passed.{isSync, Passed};
+ghost use Rattle.salvage.specs.Passed.{isSync, NextPlace};
 
 // The numbers of an entry of the list: kind, place, length.
 pub const ENTRY: usize = 3;
@@ -147,7 +147,7 @@ fn is_sync(capture: &[u8], place: usize) -> bool
 // The next place that is worth a parse: where the sync word stands, or where the one after has too few bytes for it. What a parse would
 // leave in the room at the places before, the parse there writes over. (Public because whoever walks over a capture passes over them.)
 pub fn next_place(capture: &[u8], from: usize) -> usize
-    ensures { λ r. ⌜ Passed (now (capture .entry)) from r ⌝ }
+    ensures { λ r. ⌜ NextPlace (now (capture .entry)) from r ⌝ }
 {
     if capture.len() < SYNCINFO {
         return from;

@@ -1,11 +1,8 @@
 -- `index::begin` meets its contract: its checks are the definition's, in the same order. Assumes nothing.
-use mathlib.Core.Path.{_≡_, refl, sym, _∙_}
-use Prim.Native.Nat.{ℕ}
+use mathlib.Core.Path.{refl, sym, _∙_}
 use native.Mathlib.Omega.{arith}
 use borrow.Author.Needs.{needs}
 use borrow.Author.Tests.{not-true, not-false}
-use Rattle.ac3.specs.Promise.{call}
-use Rattle.index.specs.Index.{entryIn}
 use Rattle.index.proofs.Begins.{afresh, no-such, refused-there, other-there, behind, inside}
 use Rattle.index.proofs.begin.Statement.{statement}
 use Rattle.index.proofs.begin.Tie as tie

@@ -1,6 +1,6 @@
 -- `index::extend` meets its contract: with ample room one walk answers; else the first walk counts, and the second finds the same. Assumes
 -- nothing.
-use mathlib.Core.Path.{_≡_, sym, _∙_}
+use mathlib.Core.Path.{sym, _∙_}
 use native.Mathlib.Omega.{arith}
 use borrow.Author.Needs.{needs}
 use Rattle.index.proofs.Answered.{ample, entries-are, no-fields, no-room, second}

@@ -1,5 +1,5 @@
 -- `index::fill` meets its contract: what is left to walk from the loop's place on fills in what the whole walk does. Assumes nothing.
-use mathlib.Core.Path.{_≡_, refl, sym, _∙_}
+use mathlib.Core.Path.{refl, sym, _∙_}
 use Prim.Native.Nat.{_-_}
 use native.Mathlib.Omega.{arith}
 use borrow.Author.Needs.{needs}
@@ -33,7 +33,7 @@ again c =
     let read = full .before .before in
     let test = read .before .before .before in
     on _ _ _ _ _ (test .before .loop .inv) (test .loop-test .taken) (read .before .parse .ensures .0) (read .rows .given)
-    (full .if1 .left) (sym (judged .before .is-short .ensures) ∙ judged .if2 .left) (c .before .if3 .taken) (c .next-place .ensures)
+    (full .if1 .left) (sym (judged .before .is-short .ensures) ∙ judged .if2 .left) (c .before .if3 .taken) (c .next-place .ensures .passed)
 
 -- an entry is counted for each so many bytes, so the count fits
 one-more : tie.Need-add-done Inv-loop μ-loop
@@ -86,7 +86,7 @@ fill-spec =
     too-short
     (λ c. search needs)  -- add-next-place
     (λ c κs. search needs)  -- next-place-requires
-    (λ c. omega (arith, c .next-place .ensures .onward))  -- loop-less
+    (λ c. omega (arith, c .next-place .ensures .passed .onward))  -- loop-less
     again
     (λ c κs. search needs)  -- entry-of-requires
     (λ c κs. search needs)  -- put-requires

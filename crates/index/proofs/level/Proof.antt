@@ -1,6 +1,6 @@
 -- `index::level` meets its contract: a number of a row is smaller than the clamp's top. Assumes nothing.
-use mathlib.Core.Path.{_≡_, sym, ap, subst, _∙_}
-use Prim.Native.Nat.{ℕ, min}
+use mathlib.Core.Path.{_≡_, ap, subst, _∙_}
+use Prim.Native.Nat.{ℕ}
 use native.Mathlib.Omega.{arith}
 use borrow.Author.Needs.{needs}
 use lib.IntN.{ℤ, pos}

@@ -1,5 +1,4 @@
 -- `index::second_level` meets its contract, by the two cases of its test. Assumes nothing.
-use mathlib.Core.Path.{_≡_}
 use borrow.Author.Needs.{needs}
 use borrow.Author.Tests.{eq-eqb, ne-eqb}
 use Rattle.index.proofs.second_level.Statement.{statement}

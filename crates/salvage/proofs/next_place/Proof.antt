@@ -40,12 +40,12 @@ next-place-spec =
     (tie.spec
     Inv-loop
     μ-loop
-    (λ c. nothing-yet _ _)  -- returns
+    (λ c. record { passed = nothing-yet _ _; worth = λ more. absurd (omega arith) })  -- returns
     (λ c. search needs)  -- sub-end
     (λ c. nothing-yet _ _)  -- loop-holds
     (λ c κs. omega arith)  -- is-sync-requires
-    (λ c. c .before .before .before .loop .inv)  -- returns-2
+    (λ c. record { passed = c .before .before .before .loop .inv; worth = λ _. sym (c .before .is-sync .ensures) ∙ c .if2 .taken })  -- returns-2
     (λ c. search needs)  -- add-place
     (λ c. omega arith)  -- loop-less
     again
-    (λ c. c .before .loop .inv))  -- returns-3
+    (λ c. record { passed = c .before .loop .inv; worth = λ more. absurd (omega arith) }))  -- returns-3

@@ -3,8 +3,8 @@
    proved.
 
    The functions have no state: no heap, no globals, no files, no signals. Any number of threads may call them at once, each with its own
-   `rows`, `list`, `out`, `changes` and `answer` (and `capture`, where it is written to). The archive needs memcpy, memmove and memset, and
-   nothing else.
+   `rows`, `list`, `index`, `out`, `changes` and `answer` (and `capture`, where it is written to). The archive needs memcpy, memmove and
+   memset, and nothing else.
 
    An edit breaks the checksums: but for the sync word, crc1 guards the first five eighths of a frame and crc2 all of it. Whoever changes
    a field makes crc2 wrong, and crc1 too where the field stands that early, and a decoder may then drop the frame. ferrysprig_correct
@@ -132,8 +132,8 @@ enum {
 }
 
 /* What each refusal means: 1 to 23 of a frame, 24 of a header answer, 25 to 27 of an AHT section, 28 and 30 to 34 of a burst, 35 to 37 of a
-   salvage, 40 to 46 of a listing, 50 to 52 of a level correction, 57 to 59 of a value to be set. (No others are given. The text of 6 is a
-   frame's; ferrysprig_aht says what it means of a section.) */
+   salvage, 40 to 46 of a listing, 50 to 52 of a level correction, 37, 55 and 56 of an index, 57 to 59 of a value to be set. (No others are
+   given. The text of 6 is a frame's; ferrysprig_aht says what it means of a section.) */
 #define FERRYSPRIG_MEANINGS { \
     /*  0 */ "accepted", \
     /*  1 */ "the input has fewer than 6 bytes", \
@@ -185,7 +185,9 @@ enum {
     /* 50 */ "the frame has no such programme", \
     /* 51 */ "the level is not 1 to 31", \
     /* 52 */ "the audio ends later than 18 bits before the frame's end", \
-    /* 53 */ "", "", "", "", \
+    /* 53 */ "", "", \
+    /* 55 */ "the index has no room for a frame", \
+    /* 56 */ "parsing at the last entry's place does not give that entry", \
     /* 57 */ "the width is not 1 to 16", \
     /* 58 */ "the field does not lie within the capture", \
     /* 59 */ "the value does not fit the width" \
@@ -449,6 +451,45 @@ void ferrysprig_pack(const uint8_t *listing, size_t listing_len, uint8_t *out, s
    is answered; `out` and `answer` overlap nothing. Bytes of `out` past those written are not touched, and none is on a refusal. */
 void ferrysprig_unpack(const uint8_t *packed, size_t packed_len, uint8_t *out, size_t out_len,
                        size_t answer[FERRYSPRIG_PACK_ANSWER_NUMBERS]);
+
+/* An index beside a capture: its frames with their places and levels, extended as the capture grows. */
+
+/* The numbers of an answer about an index. */
+enum {
+    FERRYSPRIG_INDEX_ANSWER_REFUSAL = 0, /* 0: made or extended; else 37, 55 or 56, see FERRYSPRIG_MEANINGS */
+    FERRYSPRIG_INDEX_ANSWER_ENTRIES = 1  /* how many entries the index has; on a refusal those that were given */
+};
+#define FERRYSPRIG_INDEX_ANSWER_NUMBERS 2
+
+/* The numbers of an entry of an index. Entry i begins at number FERRYSPRIG_INDEX_ENTRY_NUMBERS * i. */
+enum {
+    FERRYSPRIG_INDEX_ENTRY_PLACE = 0,     /* the frame's first byte, counted from the capture's first */
+    FERRYSPRIG_INDEX_ENTRY_LENGTH = 1,    /* in bytes */
+    FERRYSPRIG_INDEX_ENTRY_ACMOD = 2,
+    FERRYSPRIG_INDEX_ENTRY_DIALNORM = 3,  /* of the first programme, or the only one */
+    FERRYSPRIG_INDEX_ENTRY_DIALNORM2 = 4  /* of the second, which there is with acmod 0; else 0 */
+};
+#define FERRYSPRIG_INDEX_ENTRY_NUMBERS 5
+
+/* Frames that no capture of so many bytes exceeds. */
+#define FERRYSPRIG_MOST_FRAMES(bytes) ((bytes) / FERRYSPRIG_LEAST_BYTES)
+
+/* Makes the index of `capture` (`entries` is 0), or extends the one whose `entries` stand at the front of `index`, after bytes were
+   appended to its capture. The frames are those of ferrysprig_salvage's walk, from the end of the last entry on or from byte 0, before the
+   first place where parsing answers 1 or 4: those two refusals alone can change when bytes come. With the same room for rows an index that
+   was extended is the one that is made afresh, however the bytes came. To extend costs by what was appended: nothing before the last
+   entry's place is looked at.
+
+   The refusals are given in this order, and 37 anywhere in the walk comes before 55: 56 where parsing at the last entry's place does not
+   give that entry, its five numbers (so the capture is another one), or answers 7, or where more entries are given than `index` has room
+   for; 37 where parsing answers 7 at a place of the walk; 55 where `index` has no room for all. On a refusal no number of `index` is
+   touched, and otherwise those of the new entries alone. With room for FERRYSPRIG_MOST_ROWS rows 37 is not given; nor is 55 with
+   FERRYSPRIG_MOST_FRAMES of the bytes after the last entry.
+
+   `rows_len` and `index_len` count numbers; the index has room for index_len / FERRYSPRIG_INDEX_ENTRY_NUMBERS entries. `rows` is left as the
+   parses, at the last entry and then in the walk, leave it. Any input is answered; `rows`, `index` and `answer` overlap nothing. */
+void ferrysprig_index(const uint8_t *capture, size_t capture_len, int32_t *rows, size_t rows_len, size_t *index, size_t index_len,
+                      size_t entries, size_t answer[FERRYSPRIG_INDEX_ANSWER_NUMBERS]);
 
 #ifdef __cplusplus
 }

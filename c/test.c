@@ -490,6 +490,75 @@ static void try_salvage(void) {
               && FERRYSPRIG_MOST_ENTRIES(128) == 3 && FERRYSPRIG_MOST_ENTRIES(258) == 5);
 }
 
+/* What an index is lent at most: one number more than three entries have. (One number more is not lent.) */
+enum { INDEXED = FERRYSPRIG_INDEX_ENTRY_NUMBERS, INDEX = 3 * INDEXED + 1 };
+static size_t lent_index[INDEX + 1];
+static size_t index_answer[FERRYSPRIG_INDEX_ANSWER_NUMBERS + 1];
+
+/* The index of the first bytes of a frame of dialnorm 1, three bytes, a frame of dialnorm 2, and one of dialnorm 3: extended, where entries
+   are given, from the last of them. */
+static const size_t indexed_frames[][INDEXED] = {{0, 128, 1, 1, 0}, {131, 128, 1, 2, 0}, {259, 128, 1, 3, 0}};
+
+static void index_of(size_t length, size_t numbers, size_t index_numbers, size_t entries) {
+    static const uint8_t front[] = {0x0B, 0x77, 0x00, 0x00, 0x00, 0x40, 0x20, 0x00, 0x0B, 0x00, 0x1F, 0x3E, 0x7C, 0xF9, 0xF3, 0xE2, 0x00,
+        0x20};
+    static uint8_t capture[3 * FERRYSPRIG_LEAST_BYTES + 3];
+    for (int i = 0; i < 3; i++) {
+        uint8_t *frame = &capture[indexed_frames[i][FERRYSPRIG_INDEX_ENTRY_PLACE]];
+        memcpy(frame, front, sizeof front);
+        /* dialnorm: bits 52 to 56, and the flag behind it is bit 57 */
+        frame[6] = (uint8_t)(0x20 | (i + 1) >> 1);
+        frame[7] = (uint8_t)(((i + 1) & 1) << 7);
+    }
+    for (size_t i = 0; i < sizeof lent_index / sizeof *lent_index; i++)
+        lent_index[i] = UNTOUCHED;
+    memcpy(lent_index, indexed_frames, (entries < 3 ? entries : 0) * sizeof *indexed_frames);
+    for (size_t i = 0; i < sizeof index_answer / sizeof *index_answer; i++)
+        index_answer[i] = UNTOUCHED;
+    ferrysprig_index(capture, length, room, numbers, lent_index, index_numbers, entries, index_answer);
+}
+
+/* Whether the answer says so, and the index has these entries, the first of the frames, with nothing behind them touched. */
+static bool indexed(size_t refusal, size_t entries) {
+    size_t numbers = INDEXED * entries;
+    bool same = memcmp(lent_index, indexed_frames, numbers * sizeof *lent_index) == 0;
+    for (size_t i = numbers; i < sizeof lent_index / sizeof *lent_index; i++)
+        same = same && lent_index[i] == UNTOUCHED;
+    return same && index_answer[FERRYSPRIG_INDEX_ANSWER_REFUSAL] == refusal && index_answer[FERRYSPRIG_INDEX_ANSWER_ENTRIES] == entries
+        && index_answer[FERRYSPRIG_INDEX_ANSWER_NUMBERS] == UNTOUCHED;
+}
+
+static void try_index(void) {
+    enum { ALL = 3 * FERRYSPRIG_LEAST_BYTES + 3, ROWS = 95 * WIDTH };
+    memset(index_answer, 0xA5, sizeof index_answer);
+    ferrysprig_index(NULL, 0, NULL, 0, NULL, 0, 0, index_answer);
+    holds("the index of nothing at all", index_answer[0] == 0 && index_answer[1] == 0);
+    index_of(ALL, ROWS, INDEX, 0);
+    holds("an index of three frames", indexed(0, 3));
+    index_of(ALL - 1, ROWS, INDEX, 0);
+    holds("a last frame that is not yet whole", indexed(0, 2));
+    index_of(ALL, ROWS, INDEX, 2);
+    holds("that index extended", indexed(0, 3));
+    index_of(130, ROWS, INDEX, 0);
+    holds("a frame and the beginning of a gap", indexed(0, 1));
+    index_of(ALL, ROWS, 3 * INDEXED, 1);
+    holds("rooms of an index that just suffice", indexed(0, 3));
+    index_of(ALL, ROWS, 3 * INDEXED - 1, 1);
+    holds("a number of the index too few", indexed(55, 1));
+    index_of(ALL, ROWS - 1, INDEX, 0);
+    holds("a number of room too few for the first place", indexed(37, 0));
+    index_of(ALL, ROWS - 1, INDEX, 1);
+    holds("and for the last entry", indexed(56, 1));
+    index_of(127, ROWS, INDEX, 1);
+    holds("a capture that is shorter than its index says", indexed(56, 1));
+    index_of(ALL, ROWS, 2 * INDEXED - 1, 2);
+    holds("more entries than the index has room for", index_answer[0] == 56 && index_answer[1] == 2);
+    index_of(ALL, ROWS, INDEX, SIZE_MAX);
+    holds("more entries than can be counted", index_answer[0] == 56 && index_answer[1] == SIZE_MAX && lent_index[0] == UNTOUCHED);
+    holds("frames that always suffice", FERRYSPRIG_MOST_FRAMES(127) == 0 && FERRYSPRIG_MOST_FRAMES(128) == 1
+              && FERRYSPRIG_MOST_FRAMES(256) == 2);
+}
+
 /* A frame within the profile, of 768 bytes with zeros behind these: words 384, bsid 8, acmod 2, dialnorm 1 (row 9, bit 54), 135 rows. The
    deltbaie of block b is row 62 + 14 b, at bit 224 + 15 b. */
 static const uint8_t within[] = {0x0B, 0x77, 0x00, 0x00, 0x14, 0x40, 0x40, 0x20, 0x00, 0xA1, 0xE0, 0x00, 0x0F, 0x9F, 0x3E, 0x7C, 0xF9, 0xF0,
@@ -629,13 +698,15 @@ static void try_texts(void) {
               && strcmp(meanings[24], "the header answer does not fit the input") == 0 && strcmp(meanings[33], "a byte after the frame is not 0") == 0
               && strcmp(meanings[26], "a hebap is above 19") == 0 && strcmp(meanings[36], "no entry of the list is left") == 0
               && strcmp(meanings[40], "a line is malformed") == 0 && strcmp(meanings[45], "the output is too short for the listing") == 0
-              && strcmp(meanings[51], "the level is not 1 to 31") == 0 && strcmp(meanings[57], "the width is not 1 to 16") == 0);
+              && strcmp(meanings[51], "the level is not 1 to 31") == 0
+              && strcmp(meanings[55], "the index has no room for a frame") == 0
+              && strcmp(meanings[57], "the width is not 1 to 16") == 0);
     static const char *const rules[] = FERRYSPRIG_RULES;
     holds("rules by their numbers", sizeof rules / sizeof *rules == 8 && strcmp(rules[0], "within the profile") == 0
               && strcmp(rules[FERRYSPRIG_RULE_WORDS], "the frame has fewer than 384 words") == 0
               && strcmp(rules[FERRYSPRIG_RULE_DIALNORM], "dialnorm is 0") == 0);
     bool empty = meanings[29][0] == '\0' && meanings[38][0] == '\0' && meanings[39][0] == '\0';
-    for (int i = 47; i < 57; i++)
+    for (int i = 47; i < 55; i++)
         empty = empty && (meanings[i][0] == '\0') == (i < 50 || i > 52);
     holds("no meanings where there is no refusal", empty);
 }
@@ -647,8 +718,8 @@ static size_t stream_len;
 static ucontext_t here, there;
 
 /* What is called: the header of each frame of a stream and then its blocks; another level, the profile and the parse of each; each frame
-   written as a burst and read; the stream salvaged. (The deepest comes first: what binding takes is taken once.) And its bytes are
-   walked over as if they were AHT sections, and a listing is packed and unpacked. */
+   written as a burst and read; the stream salvaged, and its index made. (The deepest comes first: what binding takes is taken once.) And its
+   bytes are walked over as if they were AHT sections, and a listing is packed and unpacked. */
 static enum { APART, PARSES, BURSTS, SALVAGE, WAYS } way;
 
 static void call(void) {
@@ -669,6 +740,8 @@ static void call(void) {
         static size_t entries[FERRYSPRIG_ENTRY_NUMBERS * FERRYSPRIG_MOST_ENTRIES(sizeof stream)];
         ferrysprig_salvage(stream, stream_len, room, numbers, entries, sizeof entries / sizeof *entries, frames, sizeof frames,
                            salvage_answer);
+        static size_t index[FERRYSPRIG_INDEX_ENTRY_NUMBERS * FERRYSPRIG_MOST_FRAMES(sizeof stream)];
+        ferrysprig_index(stream, stream_len, room, numbers, index, sizeof index / sizeof *index, 0, index_answer);
         return;
     }
     do {
@@ -733,6 +806,7 @@ int main(int argc, char **argv) {
     try_aht();
     try_bursts();
     try_salvage();
+    try_index();
     try_profile();
     try_listings();
     try_texts();

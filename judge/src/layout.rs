@@ -120,3 +120,9 @@ pub const CHANGE: usize = 3;
 
 /// The list of changes: at most crc1, one level, crcrsv and crc2.
 pub type Changes = [i32; 4 * CHANGE];
+
+/// An answer about an index: refusal, entries.
+pub type IndexAnswer = [usize; 2];
+
+/// The numbers of an entry of an index: place, length, acmod, dialnorm, second dialnorm or 0.
+pub const INDEXED: usize = 5;

@@ -230,3 +230,31 @@ pub mod tail_name {
 pub const MOST_CHANGES: usize = 4;
 
 pub type ChangeList = [i32; MOST_CHANGES * CHANGE_NUMBERS];
+
+/// The numbers of an answer about an index.
+pub const INDEX_ANSWER_NUMBERS: usize = 2;
+
+/// Which number of an answer about an index is which.
+pub mod index_answer_at {
+    /// 0 if the index was made or extended.
+    pub const REFUSAL: usize = 0;
+    /// How many entries the index has; on a refusal those that it had.
+    pub const ENTRIES: usize = 1;
+}
+
+pub type IndexAnswer = [usize; INDEX_ANSWER_NUMBERS];
+
+/// The numbers of an entry of an index: an index of this many numbers holds one.
+pub const INDEX_ENTRY_NUMBERS: usize = 5;
+
+/// Which number of an entry of an index is which.
+pub mod index_entry_at {
+    /// The frame's first byte, counted from the capture's first.
+    pub const PLACE: usize = 0;
+    /// In bytes.
+    pub const LENGTH: usize = 1;
+    pub const ACMOD: usize = 2;
+    pub const DIALNORM: usize = 3;
+    /// Of the second programme; 0 where there is none.
+    pub const DIALNORM2: usize = 4;
+}

@@ -95,6 +95,10 @@
 //!
 //! [`listing`] turns the text that the listing program prints into the packed form that a log collector takes, and back.
 //!
+//! # An index beside the capture
+//!
+//! [`index`](mod@index) keeps a list of a growing capture's frames, with their levels, and extends it by what was appended.
+//!
 //! # The contribution profile
 //!
 //! [`profile`] says whether a frame is one that a carrier takes, and if not, which rule is broken by which field.
@@ -162,6 +166,7 @@ pub mod edit;
 mod field;
 mod frame;
 mod header;
+pub mod index;
 mod layout;
 pub mod level;
 pub mod listing;

@@ -8,8 +8,8 @@ use std::cell::RefCell;
 use std::fmt;
 
 /// Parses the frame at the start of `data`; bytes after the frame are not looked at. (A thread that calls this, [`parse_at`], [`header`],
-/// [`header_at`], [`burst::write`](crate::burst::write), [`burst::read`](crate::burst::read), [`profile::check`](crate::profile::check) or
-/// what [`salvage`](crate::salvage) has without lent rows keeps a [`Parser`] for it.)
+/// [`header_at`], [`burst::write`](crate::burst::write), [`burst::read`](crate::burst::read), [`profile::check`](crate::profile::check) what
+/// [`salvage`](crate::salvage) has without lent rows, or what [`Index`](crate::index::Index) has, keeps a [`Parser`] for it.)
 pub fn parse(data: &[u8]) -> Result<Frame, Refusal> {
     parse_at(data, 0)
 }

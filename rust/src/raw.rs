@@ -1,12 +1,12 @@
 //! The archive's functions (c/ferrysprig.h) as safe ones. All unsafe code of the crate stands here; compare/ takes this file, too.
 
 use crate::layout::{
-    answer_at, burst_answer_at, header_answer_at, level_answer_at, pack_answer_at,
+    answer_at, burst_answer_at, header_answer_at, index_answer_at, level_answer_at, pack_answer_at,
     profile_answer_at, salvage_answer_at, AhtAnswer, Answer, BurstAnswer, ChangeList, HeaderAnswer,
-    LevelAnswer, PackAnswer, ProfileAnswer, SalvageAnswer, AHT_ANSWER_NUMBERS, ANSWER_NUMBERS,
-    BURST_ANSWER_NUMBERS, CHANGE_NUMBERS, ENTRY_NUMBERS, HEADER_ANSWER_NUMBERS,
-    LEVEL_ANSWER_NUMBERS, PACK_ANSWER_NUMBERS, PROFILE_ANSWER_NUMBERS, ROW_NUMBERS,
-    SALVAGE_ANSWER_NUMBERS,
+    IndexAnswer, LevelAnswer, PackAnswer, ProfileAnswer, SalvageAnswer, AHT_ANSWER_NUMBERS,
+    ANSWER_NUMBERS, BURST_ANSWER_NUMBERS, CHANGE_NUMBERS, ENTRY_NUMBERS, HEADER_ANSWER_NUMBERS,
+    INDEX_ANSWER_NUMBERS, INDEX_ENTRY_NUMBERS, LEVEL_ANSWER_NUMBERS, PACK_ANSWER_NUMBERS,
+    PROFILE_ANSWER_NUMBERS, ROW_NUMBERS, SALVAGE_ANSWER_NUMBERS,
 };
 
 extern "C" {
@@ -90,6 +90,16 @@ extern "C" {
         out: *mut u8,
         out_len: usize,
         answer: *mut SalvageAnswer,
+    );
+    fn ferrysprig_index(
+        capture: *const u8,
+        capture_len: usize,
+        rows: *mut i32,
+        rows_len: usize,
+        index: *mut usize,
+        index_len: usize,
+        entries: usize,
+        answer: *mut IndexAnswer,
     );
     fn ferrysprig_aht(
         data: *const u8,
@@ -436,4 +446,29 @@ pub fn correct<'a>(
         .and_then(|count| changes.get(..count.checked_mul(CHANGE_NUMBERS)?))
         .expect("libferrysprig.a listed more changes than there is room for");
     (answer, listed)
+}
+
+/// Makes an index of `capture`, or extends the one whose `entries` stand at the front of `index`.
+pub fn index(capture: &[u8], rows: &mut [i32], index: &mut [usize], entries: usize) -> IndexAnswer {
+    let mut answer = [0; INDEX_ANSWER_NUMBERS];
+    // SAFETY: as in `burst_write`, with `index` as `out`.
+    unsafe {
+        ferrysprig_index(
+            capture.as_ptr(),
+            capture.len(),
+            rows.as_mut_ptr(),
+            rows.len(),
+            index.as_mut_ptr(),
+            index.len(),
+            entries,
+            &mut answer,
+        );
+    }
+    // (That they fit is proved, as in `parse`. On a refusal they are those given, which may be any number.)
+    assert!(
+        answer[index_answer_at::REFUSAL] != 0
+            || answer[index_answer_at::ENTRIES] <= index.len() / INDEX_ENTRY_NUMBERS,
+        "libferrysprig.a entered more frames than there is room for"
+    );
+    answer
 }

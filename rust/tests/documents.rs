@@ -7,14 +7,15 @@ mod layout;
 
 use ferrysprig::burst::{self, Refusal};
 use ferrysprig::profile::{Profile, Rule};
-use ferrysprig::{aht, blocks_into, edit, header, level, listing, parse, salvage, Field, Role};
-use ferrysprig::{slot, SLOTS};
+use ferrysprig::{aht, blocks_into, edit, header, index, level, listing, parse, salvage, slot};
+use ferrysprig::{Field, Role, SLOTS};
 use ferrysprig::{LEAST_BYTES, MOST_BYTES, MOST_HEADER_ROWS, MOST_ROWS, ROW_NUMBERS};
 use ferrysprig::{NAMES, REFUSALS};
 use files::text;
 use layout::SALVAGE_ANSWER_NUMBERS;
 use layout::{aht_answer_at, answer_at, burst_answer_at, entry_at, header_answer_at};
 use layout::{change_at, kind, level_answer_at, pack_answer_at, profile_answer_at, row_at};
+use layout::{index_answer_at, index_entry_at, INDEX_ANSWER_NUMBERS, INDEX_ENTRY_NUMBERS};
 use layout::{salvage_answer_at, tail_name, CHANGE_NUMBERS, LEVEL_ANSWER_NUMBERS, MOST_CHANGES};
 use layout::{AHT_ANSWER_NUMBERS, ANSWER_NUMBERS, BURST_ANSWER_NUMBERS, ENTRY_NUMBERS};
 use layout::{HEADER_ANSWER_NUMBERS, PACK_ANSWER_NUMBERS, PROFILE_ANSWER_NUMBERS};
@@ -116,6 +117,19 @@ fn texts_are_those_of_the_header() {
     ] {
         say(refusal.number(), refusal.meaning());
     }
+    // (37 of an index is that of a salvage.)
+    let of_index = [
+        index::Refusal::NoRow,
+        index::Refusal::NoRoom,
+        index::Refusal::OtherEntry,
+    ];
+    for refusal in of_index {
+        say(refusal.number(), refusal.meaning());
+    }
+    assert_eq!(
+        index::Refusal::NoRow.meaning(),
+        salvage::Refusal::NoRow.meaning()
+    );
     // (Refusal 6 of a section has a frame's number and its own text.)
     for refusal in [
         aht::Refusal::WrongGain,
@@ -150,6 +164,11 @@ fn numbers_are_those_of_the_header() {
     assert_eq!(LEVEL_ANSWER_NUMBERS, of_level);
     assert_eq!(CHANGE_NUMBERS, number("FERRYSPRIG_CHANGE_NUMBERS"));
     assert_eq!(MOST_CHANGES, number("FERRYSPRIG_MOST_CHANGES"));
+    let of_index = number("FERRYSPRIG_INDEX_ANSWER_NUMBERS");
+    assert_eq!(INDEX_ANSWER_NUMBERS, of_index);
+    let of_entry = number("FERRYSPRIG_INDEX_ENTRY_NUMBERS");
+    assert_eq!(INDEX_ENTRY_NUMBERS, of_entry);
+    assert_eq!(INDEX_ENTRY_NUMBERS, judge::layout::INDEXED);
     assert_eq!(MOST_ROWS, number("FERRYSPRIG_MOST_ROWS"));
     assert_eq!(MOST_HEADER_ROWS, number("FERRYSPRIG_MOST_HEADER_ROWS"));
     assert_eq!(MOST_BYTES, number("FERRYSPRIG_MOST_BYTES"));
@@ -274,6 +293,17 @@ fn places_are_those_of_the_header() {
     ];
     let tail = [("CRCRSV", tail_name::CRCRSV), ("CRC2", tail_name::CRC2)]
         .map(|(name, number)| (name, number as usize));
+    let of_index = [
+        ("REFUSAL", index_answer_at::REFUSAL),
+        ("ENTRIES", index_answer_at::ENTRIES),
+    ];
+    let indexed = [
+        ("PLACE", index_entry_at::PLACE),
+        ("LENGTH", index_entry_at::LENGTH),
+        ("ACMOD", index_entry_at::ACMOD),
+        ("DIALNORM", index_entry_at::DIALNORM),
+        ("DIALNORM2", index_entry_at::DIALNORM2),
+    ];
     let rules = [
         ("FSCOD", Rule::Fscod),
         ("ACMOD", Rule::Acmod),
@@ -303,6 +333,8 @@ fn places_are_those_of_the_header() {
     assert_eq!(places("FERRYSPRIG_LEVEL_ANSWER_"), own(&of_level));
     assert_eq!(places("FERRYSPRIG_CHANGE_"), own(&change));
     assert_eq!(places("FERRYSPRIG_NAME_"), own(&tail));
+    assert_eq!(places("FERRYSPRIG_INDEX_ANSWER_"), own(&of_index));
+    assert_eq!(places("FERRYSPRIG_INDEX_ENTRY_"), own(&indexed));
 }
 
 #[test]

@@ -24,6 +24,7 @@ ghost use Rattle.edits.specs.Edits as edits;
 ghost use Rattle.ac3.specs.Apart.{headerTo};
 ghost use Rattle.ferrysprig.specs.Apart.{headerTold, blocksHeld};
 ghost use Rattle.salvage.specs.Lent.{salvaged};
+ghost use Rattle.index.specs.Index.{indexed};
 ghost use Rattle.aht.specs.Aht.{ahtOf};
 ghost use Rattle.ferrysprig.specs.Aht.{ahtNumbers};
 ghost use Rattle.level.specs.Level.{correctTo};
@@ -34,6 +35,7 @@ ghost use Rattle.ferrysprig.specs.Numbers.{flag, inOrder, answerNumbers,
 ghost use Rattle.ferrysprig.specs.Profiles.{profileInOrder, profileNumbers, profileTold};
 ghost use Rattle.ferrysprig.specs.Promise.{PromisedNumbers};
 ghost use Rattle.ferrysprig.specs.Salvages.{salvageNumbers, salvageTold};
+ghost use Rattle.ferrysprig.specs.Indexes.{indexTold};
 
 // The numbers of an answer, and of those about a burst, a salvage, the profile and a level. The block of what did not fit, which alone may be
 // negative, stands before the mantissa bits.
@@ -253,6 +255,22 @@ pub extern "C" fn ferrysprig_salvage(
     ensures { λ _. ⌜ ((now (answer .exit), (now (list .exit), now (out .exit))), now (rows .exit)) ≡ salvageTold (salvaged (now (capture .entry)) (now (rows .entry)) (now (list .entry)) (now (out .entry))) ⌝ }
 {
     *answer = salvage_numbers(salvage::salvage(capture, rows, list, out));
+}
+
+// Makes an index of a capture, or extends one that holds so many entries, five numbers to an entry (place, length, acmod, dialnorm, second
+// dialnorm), and then writes the answer's numbers.
+#[no_mangle]
+pub extern "C" fn ferrysprig_index(
+    capture: &[u8],
+    rows: &mut [i32],
+    index: &mut [usize],
+    entries: usize,
+    answer: &mut [usize; 2],
+)
+    ensures { λ _. ⌜ ((now (answer .exit), now (index .exit)), now (rows .exit)) ≡ indexTold (indexed (now (capture .entry)) (now (rows .entry)) (now (index .entry)) entries) ⌝ }
+{
+    let told = index::index(capture, rows, index, entries);
+    *answer = [told.refusal as usize, told.entries];
 }
 
 // Walks over an AHT section from bit `at` on, with the bins from first up to past, where nothing may end past bit `end`, and writes the

@@ -7,23 +7,22 @@ use Prim.Native.Nat.{ℕ, zero, suc, _+_, _-_, _*_, _/_, _%_, _^_, _≤_, _<_, m
 use native.Mathlib.Decide.{decLe}
 use native.Mathlib.Nat.{le-refl}
 use native.Mathlib.Omega.{arith}
-use borrow.Author.Tests.{ltb-false}
-use lib.Dec.{eqb, ltb}
+use borrow.Author.Tests.{eqb-false, ltb-false}
+use lib.Dec.{T, eqb, ltb}
 use lib.ListN.{length, take, drop, getD, replicate, length-append, length-drop, length-replicate, take-append-drop, List·getD-append, List·getD-eq-default, getD-replicate}
 use lib.Seq.{length-take-le, getD-take, take-length}
 use Rattle.bits.specs.Bits.{bitAt, value}
 use Rattle.bits.proofs.Determine.{value-of-bits}
 use Rattle.bits.proofs.Window.{value-lt}
-use Rattle.tables.specs.Tables.{frameBytes}
+use Rattle.tables.specs.Tables.{words48, words44, words32, frameBytes}
+use Rattle.tables.proofs.Rules.{large, large-at}
 use Rattle.syntax.specs.declared.Refusal.{Refusal}
 use Rattle.syntax.specs.Refusals.{notSync, noFrameSize}
 use Rattle.syntax.specs.Grammar.{Grammar, done, refuse, field, free, span, walk, frame, here, _>>=_, refuseIf}
 use Rattle.syntax.specs.Later.{Past, TooShort, sized, resized}
 use Rattle.syntax.specs.Place.{Place, finish}
-use Rattle.syntax.specs.Rows.{Tiles}
 use Rattle.syntax.specs.Run.{Row, Spot, End, reached, Result, Check, clear, stop, unless, run, rowCheck, walkCheck, frameCheck, sum, beyond, within, start, parse, endOf}
 use Rattle.syntax.proofs.Later.{only-what-was-read, appending}
-use Rattle.syntax.proofs.Tiles.{tiles-le}
 use Rattle.header.specs.Header.{syncinfo, bsi, header}
 use Rattle.header.specs.declared.Header.{Header}
 use Rattle.ac3.specs.AtMost.{AtMost, a-done, a-refuse, a-field, a-free, a-span, a-walk, a-frame, a-here}
@@ -38,9 +37,7 @@ use Rattle.ac3.proofs.Promise.{promised, result, landed, answer-is}
 use Rattle.ac3.proofs.Rooms.{same-answer}
 use Rattle.ac3.proofs.RowBound.{a-bsi, a-audio}
 use Rattle.ac3.proofs.Within.{kept-within}
-use Rattle.rows.specs.Found.{opening}
-use Rattle.rows.proofs.Opening.{opens}
-use Rattle.rows.specs.Framed.{frameBytesOf, frameOf, SameFrame, Framed, AcceptedFramed, RowsCount}
+use Rattle.rows.specs.Framed.{shortest, frameBytesOf, frameOf, SameFrame, Framed, AcceptedFramed, RowsCount}
 
 -- ---- every answer that a grammar can reach
 
@@ -206,18 +203,52 @@ asks-sync = (
       (λ fscod _ code _. past _ (eqb (frameBytes fscod code) 0) noFrameSize _ (inr (own (frameBytes fscod code)), tt)),
 )
 
-module _ (n : ℕ) where
-  yields-bsi : (fscod bytes : ℕ) → Enough n bytes → Yields (λ (h : Header). Enough n (h .bytes)) (bsi fscod bytes)
-  yields-bsi fscod bytes enough = yields-of (wider {Q = λ (h : Header). h .bytes ≡ bytes} (λ h same. subst (Enough n) (sym same) enough) (a-bsi fscod bytes))
+-- what holds of the frame's size holds of it in every answer after
+module _ (P : ℕ → Type 0) where
+  yields-bsi : (fscod bytes : ℕ) → P bytes → Yields (λ (h : Header). P (h .bytes)) (bsi fscod bytes)
+  yields-bsi fscod bytes p = yields-of (wider {Q = λ (h : Header). h .bytes ≡ bytes} (λ h same. subst P (sym same) p) (a-bsi fscod bytes))
 
-  yields-audio : (h : Header) → Enough n (h .bytes) → Yields (λ (a : Audio). Enough n (a .header .bytes)) (audio h)
-  yields-audio h enough = yields-of (wider {Q = λ (a : Audio). a .header ≡ h} (λ a same. subst (λ (h : Header). Enough n (h .bytes)) (sym same) enough) (a-audio h))
+  yields-audio : (h : Header) → P (h .bytes) → Yields (λ (a : Audio). P (a .header .bytes)) (audio h)
+  yields-audio h p = yields-of (wider {Q = λ (a : Audio). a .header ≡ h} (λ a same. subst (λ (h : Header). P (h .bytes)) (sym same) p) (a-audio h))
 
 asks-frame : Asks (λ n (a : Audio). Enough n (a .header .bytes)) syncframe
 unfolding syncframe header
 asks-frame =
-    asks-then (λ n (h : Header). Enough n (h .bytes)) _ audio yields-audio (λ h. unasked _ (a-audio h)) header
-    (asks-then (λ n (x : ℕ × ℕ). Enough n (x .1)) _ _ (λ n x. yields-bsi n (x .0) (x .1)) (λ x. unasked _ (a-bsi (x .0) (x .1))) syncinfo asks-sync)
+    asks-then (λ n (h : Header). Enough n (h .bytes)) _ audio (λ n. yields-audio (Enough n)) (λ h. unasked _ (a-audio h)) header
+    (asks-then (λ n (x : ℕ × ℕ). Enough n (x .1)) _ _ (λ n x. yields-bsi (Enough n) (x .0) (x .1)) (λ x. unasked _ (a-bsi (x .0) (x .1))) syncinfo asks-sync)
+
+-- ---- no frame size of the table is smaller than the shortest
+
+entry-least : (l : List ℕ) → T (large 64 l) → (i : ℕ) → ¬ (getD l i 0 ≡ 0) → 64 ≤ getD l i 0
+entry-least l t i some = go (decLe (length l) i)
+  where
+    go : Dec (length l ≤ i) → 64 ≤ getD l i 0
+    go (Dec.yes h) = absurd (some (List·getD-eq-default l 0 {n = i} h))
+    go (Dec.no h) = large-at 64 l t i (omega arith)
+
+bytes-least : (fscod code : ℕ) → ¬ (frameBytes fscod code ≡ 0) → shortest ≤ frameBytes fscod code
+unfolding frameBytes words48 words44 words32
+bytes-least zero code h = omega (arith, entry-least words48 tt (code / 2) (λ z. h (omega (arith, z))))
+bytes-least (suc zero) code h = omega (arith, entry-least words44 tt code (λ z. h (omega (arith, z))))
+bytes-least (suc (suc zero)) code h = omega (arith, entry-least words32 tt (code / 2) (λ z. h (omega (arith, z))))
+bytes-least (suc (suc (suc n))) code h = absurd (h refl)
+
+judged : {B : Type 0} (P : B → Type 0) (b : Bool) (x : Refusal) (f : Unit {0} → Grammar B) → (b ≡ false → Yields P (f tt)) → Yields P (refuseIf b x >>= f)
+unfolding _>>=_
+judged P true x f y = tt
+judged P false x f y = y refl
+
+least-sync : Yields (λ (x : ℕ × ℕ). shortest ≤ x .1) syncinfo
+unfolding syncinfo _>>=_
+least-sync =
+    λ syncword _. judged _ (not (eqb syncword 0x0B77)) notSync _
+    (λ _ fscod _ code _. judged _ (eqb (frameBytes fscod code) 0) noFrameSize _ (λ e. bytes-least fscod code (eqb-false (frameBytes fscod code) 0 e)))
+
+least-frame : Yields (λ (a : Audio). shortest ≤ a .header .bytes) syncframe
+unfolding syncframe header
+least-frame =
+    yields-then (λ (h : Header). shortest ≤ h .bytes) _ audio (λ h. yields-audio (λ n. shortest ≤ n) h) header
+    (yields-then (λ (x : ℕ × ℕ). shortest ≤ x .1) _ _ (λ x. yields-bsi (λ n. shortest ≤ n) (x .0) (x .1)) syncinfo least-sync)
 
 -- ---- an accepted frame
 
@@ -268,12 +299,12 @@ module _ (c : Call) (ok : Accepted c) where
   inside : n ≤ length s
   inside = omega (arith, lies .frame ok)
 
-  -- seven rows, 51 bits, are read in any case
-  some : 6 ≤ n
+  -- the table has no shorter frame
+  some : shortest ≤ n
   some =
-      let all = opens c ok in
-      let tiled = subst (λ rows. Tiles 0 rows (answerTo c .0 .bit)) (all .1) (kept .tiles ok) in
-      omega (arith, lies .end ok, tiles-le (all .0) 51 (answerTo c .0 .bit) (tiled .1 .1 .1 .1 .1 .1 .1))
+      let taken = kept .sound ok in
+      let bytes : taken .answer .header .bytes ≡ n = ap (λ s. s .header .bytes) (sym (kept .summary taken)) in
+      omega (arith, bytes, reaches (λ (a : Audio). shortest ≤ a .header .bytes) s (taken .answer) syncframe (start (length s) (roomFor c)) least-frame (taken .accepted))
 
   -- with the longest frame's bytes nothing is too short, so no more are asked for
   most : n ≤ longest

@@ -7,6 +7,10 @@ use lib.ListN.{length, take}
 use Rattle.ac3.specs.Later.{longest}
 use Rattle.ac3.specs.Promise.{Call, input, roomFor, listed, answerTo, Accepted}
 
+-- the shortest frame's bytes
+abbrev pub shortest : ℕ
+shortest = 128
+
 abbrev pub frameBytesOf : Call → ℕ
 frameBytesOf c = answerTo c .0 .summary .header .bytes
 
@@ -19,7 +23,7 @@ pub record SameFrame (c d : Call) : Type 0 where
   pub rows : listed d ≡ listed c
 
 pub record Framed (c : Call) : Type 0 where
-  pub some : 6 ≤ frameBytesOf c
+  pub some : shortest ≤ frameBytesOf c
   pub most : frameBytesOf c ≤ longest
   pub inside : frameBytesOf c ≤ length (input c)
   -- alone or with any bytes behind it, at any place, with as many rows of room

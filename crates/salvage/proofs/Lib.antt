@@ -1,5 +1,6 @@
 pub mod Parsed
 pub mod Unsynced
+pub mod Skip
 pub mod Lent
 pub mod Steps
 pub mod Loop

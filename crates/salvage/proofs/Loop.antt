@@ -1,24 +1,22 @@
 -- The loop's invariant: what is left to walk from here is the whole walk. One law for each way round and out. Assumes nothing.
 use mathlib.Core.Bool.{Bool, true, false, cond, _&&_, _||_}
 use mathlib.Core.List.{List}
-use mathlib.Core.Path.{_≡_, refl, sym, ap, subst, _∙_}
+use mathlib.Core.Path.{_≡_, refl, sym, ap, _∙_}
 use Prim.Native.Nat.{ℕ, zero, suc, _+_, _-_, _≤_, _<_}
-use native.Mathlib.Decide.{decLe}
 use native.Mathlib.Omega.{arith}
 use borrow.Author.Tests.{lt-ltb, le-ltb, eq-eqb, ne-eqb, eqb-true, eqb-false}
 use lib.Dec.{eqb}
 use lib.IntN.{ℤ}
 use lib.ListN.{length}
-use lib.Seq.{sets}
-use Rattle.syntax.specs.Numbers.{rowWidth}
 use Rattle.ac3.specs.Frame.{answer}
 use Rattle.ac3.specs.declared.Answer as parse
 use Rattle.salvage.specs.Walk.{Rooms, Kept, nothing, noFields, refuse, _then_, closeGap, isMet, Walk, meet, onward, goes, step, walk, walked, salvage}
 use Rattle.salvage.specs.Lent.{numbers, shown, roomsIn, salvaged, Holds, Does}
 use Rattle.salvage.specs.declared.Answer.{Answer}
 use Rattle.salvage.proofs.Lent.{refusal-of, list-length, out-length}
-use Rattle.salvage.specs.Passed.{isSync, Passed}
-use Rattle.salvage.proofs.Unsynced.{syncRow, no-row, written-over, refused-there, row-there}
+use Rattle.salvage.specs.Passed.{Passed}
+use Rattle.salvage.proofs.Unsynced.{passed-inside}
+use Rattle.salvage.proofs.Skip.{some-room, skipped}
 use Rattle.salvage.proofs.Parsed.{moves, ends-inside}
 
 -- ---- a step of the walk
@@ -63,47 +61,16 @@ module _ (capture : List ℕ) (rooms : Rooms) (from : ℕ) (kept : Kept) (going 
   goes-there : (place : ℕ) (room : List ℤ) → place < length capture → goes capture rooms (at place room) ≡ true
   goes-there place room inside = rw (eq-eqb (kept .refusal) 0 going, lt-ltb place (length capture) inside)
 
-  -- the first row makes no difference
-  same-step : (place : ℕ) (room ns : List ℤ) → place + 6 ≤ length capture → length ns ≡ rowWidth → rowWidth ≤ length room
-      → step capture rooms (at place (sets room 0 ns)) ≡ step capture rooms (at place room)
-  unfolding step onward
-  same-step place room ns six nine some =
-      rw (goes-there place room (omega arith), written-over capture place six room ns nine some)
+  abbrev steps : ℕ → (place : ℕ) (room : List ℤ) → Walk
+  steps n place room = walk capture rooms n (at place room)
 
-  one-step : (place : ℕ) (room : List ℤ) → place + 6 ≤ length capture → isSync capture place ≡ false → rowWidth ≤ length room
-      → (ns : List ℤ) × (length ns ≡ rowWidth) × (step capture rooms (at place room) ≡ at (place + 1) (sets room 0 ns))
-  unfolding step onward
-  one-step place room six unsynced some = (
-    syncRow capture place six,
-    refl,
-    rw (goes-there place room (omega arith), refused-there capture place six unsynced room some, row-there capture place six unsynced room some),
-  )
+  by-one : (n place : ℕ) (room : List ℤ) → place < length capture → answer capture place room .0 .refusal ≡ 2 → steps (suc n) place room ≡ steps n (place + 1) (answer capture place room .1)
+  unfolding walk step onward
+  by-one n place room inside two = rw (goes-there place room inside, two)
 
-  record Skipped (n place to : ℕ) (room : List ℤ) : Type 0 where
-    pub left : ℕ
-    pub enough : length capture ≤ to + left
-    pub same : walk capture rooms n (at place room) ≡ walk capture rooms left (at to room)
-
-  skip : (k n place : ℕ) (room : List ℤ) → rowWidth ≤ length room → length capture ≤ place + n → Passed capture place (place + k) → Skipped n place (place + k) room
-  unfolding walk
-  skip zero n place room some enough passed =
-      let here : place ≡ place + 0 = omega arith in
-      record { left = n; enough = omega arith; same = ap (λ p. walk capture rooms n (at p room)) here }
-  skip (suc k) zero place room some enough passed = absurd (omega (arith, passed .unsynced place (omega arith) (omega arith) .0))
-  skip (suc k) (suc zero) place room some enough passed = absurd (omega (arith, passed .unsynced place (omega arith) (omega arith) .0))
-  skip (suc k) (suc (suc n)) place room some enough passed =
-      let (more, unsynced) = passed .unsynced place (omega arith) (omega arith) in
-      let one = one-step place room (omega (arith, more)) unsynced some in
-      let there : place + 1 + k ≡ place + suc k = omega arith in
-      let rest : Passed capture (place + 1) (place + 1 + k) = record { onward = omega arith; unsynced = λ p p-from p-to. passed .unsynced p (omega arith) (omega arith) } in
-      let later = subst (λ to. Skipped (suc n) (place + 1) to room) there (skip k (suc n) (place + 1) room some (omega arith) rest) in
-      record {
-        left = later .left;
-        enough = later .enough;
-        same = ap (λ w. walk capture rooms n (step capture rooms w)) (one .2)
-            ∙ ap (walk capture rooms n) (same-step (place + 1) room (one .0) (omega (arith, more)) (one .1) some)
-            ∙ later .same;
-      }
+  alike : (n place : ℕ) (room other : List ℤ) → place < length capture → answer capture place room ≡ answer capture place other → steps (suc n) place room ≡ steps (suc n) place other
+  unfolding walk step onward
+  alike n place room other inside same = rw (goes-there place room inside, same)
 
 -- ---- a frame that was met and kept was accepted
 
@@ -184,38 +151,18 @@ module _ (capture : List ℕ) (rows₀ : List ℤ) (list₀ out₀ : List ℕ) w
       unfolding onward
       one-on = rw unmet at on
 
-      -- with no room for a row a frame would have been met here
-      some-room : place + 6 ≤ length capture → rowWidth ≤ length after
-      some-room six = go (decLe rowWidth (length rows))
-        where
-          never : true ≡ false → ⊥
-          never e = let z : _≡_ {A = ℕ} 0 1 = ap (λ b. cond b 0 1) e in omega (arith, z)
+      not-full : ¬ (answer capture place rows .0 .refusal ≡ 7)
+      not-full seven = let z : _≡_ {A = ℕ} 0 1 = ap (λ b. cond b 0 1) (sym (ap isMet (ap (λ x. x .0 .refusal) parsed ∙ seven)) ∙ unmet) in omega (arith, z)
 
-          go : Dec (rowWidth ≤ length rows) → rowWidth ≤ length after
-          go (Dec.yes h) = omega (arith, h, long)
-          go (Dec.no h) =
-              let seven : a .refusal ≡ 7 = ap (λ x. x .0 .refusal) parsed ∙ no-row capture place six rows (omega arith) in
-              absurd (never (sym (ap isMet seven) ∙ unmet))
-
-      skipped : {to : ℕ} → Passed capture (place + 1) to → Dec (to ≤ place + 1) → Skipped capture rooms from (g .kept) (g .going) (next .left) (place + 1) to after
-      skipped {to} passed (Dec.yes h) =
-          let here : place + 1 ≡ to = omega (arith, passed .onward, h) in
-          subst (λ p. Skipped capture rooms from (g .kept) (g .going) (next .left) (place + 1) p after) here
-          (record { left = next .left; enough = next .enough; same = refl })
-      skipped {to} passed (Dec.no h) =
-          let (more, _) = passed .unsynced (place + 1) (omega arith) (omega arith) in
-          let there : place + 1 + (to - (place + 1)) ≡ to = omega (arith, passed .onward) in
-          subst (λ p. Skipped capture rooms from (g .kept) (g .going) (next .left) (place + 1) p after) there
-          (skip capture rooms from (g .kept) (g .going) (to - (place + 1)) (next .left) (place + 1) after (some-room (omega (arith, more))) (next .enough)
-          (subst (λ p. Passed capture (place + 1) p) (sym there) passed))
-
-      pub passes : {to : ℕ} → to ≤ length capture → Passed capture (place + 1) to → Going after list out done from to
-      passes {to} inside passed =
-          let past = skipped passed (decLe to (place + 1)) in
+      pub passes : {to : ℕ} → Passed capture (place + 1) to → Going after list out done from to
+      passes {to} passed =
+          let past =
+          skipped capture (steps capture rooms from (g .kept) (g .going)) (by-one capture rooms from (g .kept) (g .going)) (alike capture rooms from (g .kept) (g .going))
+          (next .left) (place + 1) to after (next .enough) (λ six. omega (arith, long, some-room capture place rows not-full (omega (arith, six)))) passed in
           record {
             kept = g .kept;
             left = past .left;
-            inside = inside;
+            inside = passed-inside passed (omega arith);
             enough = past .enough;
             going = g .going;
             holds = g .holds;

@@ -4,6 +4,7 @@ use mathlib.Core.Bool.{Bool, true, false, not}
 use mathlib.Core.List.{List, _++_}
 use mathlib.Core.Path.{_≡_, refl, sym, ap, _∙_}
 use Prim.Native.Nat.{ℕ, suc, _+_, _-_, _*_, _/_, _≤_, _<_}
+use native.Mathlib.Decide.{decLe}
 use native.Mathlib.Omega.{arith}
 use borrow.Author.Tests.{le-ltb, eq-eqb, ne-eqb, eqb-true, eqb-false}
 use lib.Dec.{eqb}
@@ -24,7 +25,7 @@ use Rattle.syntax.specs.Run.{Row, steering, row, roomCheck, check}
 use Rattle.header.specs.Header.{syncinfo, header}
 use Rattle.ac3.specs.Frame.{syncframe, answered, answer}
 use Rattle.rows.proofs.Spelt.{spelt}
-use Rattle.salvage.specs.Passed.{isSync}
+use Rattle.salvage.specs.Passed.{isSync, Passed}
 
 -- ---- the first row of a frame that begins with a field
 
@@ -100,6 +101,15 @@ module _ (capture : List ℕ) (place : ℕ) (six : place + 6 ≤ length capture)
     pub row-there : answer capture place room .1 ≡ sets room 0 syncRow
     unfolding answered
     row-there = ap (λ o. answered o .1) outcome
+
+-- ---- places that are passed over
+
+pub passed-inside : {capture : List ℕ} {from to : ℕ} → Passed capture from to → from ≤ length capture → to ≤ length capture
+passed-inside {capture} {from} {to} passed inside = go (decLe to from)
+  where
+    go : Dec (to ≤ from) → to ≤ length capture
+    go (Dec.yes h) = omega arith
+    go (Dec.no h) = omega (arith, passed .unsynced (to - 1) (omega arith) (omega arith) .0)
 
 -- ---- the sync word is two bytes
 

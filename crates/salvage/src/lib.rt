@@ -6,7 +6,7 @@ ghost use lib.ListN.{length};
 ghost use lib.Seq.{sets};
 ghost use Rattle.salvage.specs.Walk.{entryWidth, closeGap, isMet, keepFrame, meet};
 ghost use Rattle.salvage.specs.Lent.{Does, salvaged};
-ghost use Rattle.salvage.specs.Passed.{isSync, Passed};
+ghost use Rattle.salvage.specs.Passed.{isSync, NextPlace};
 
 // The numbers of an entry of the list: kind, place, length.
 pub const ENTRY: usize = 3;
@@ -145,13 +145,16 @@ fn is_sync(capture: &[u8], place: usize) -> bool
 }
 
 // The next place that is worth a parse: where the sync word stands, or where the one after has too few bytes for it. What a parse would
-// leave in the room at the places before, the parse there writes over.
-fn next_place(capture: &[u8], from: usize) -> usize
-    requires { ⌜ from ≤ length (now capture) ⌝ }
-    ensures { λ r. ⌜ (r ≤ length (now (capture .entry))) × Passed (now (capture .entry)) from r ⌝ }
+// leave in the room at the places before, the parse there writes over. (Public because whoever walks over a capture passes over them.)
+pub fn next_place(capture: &[u8], from: usize) -> usize
+    ensures { λ r. ⌜ NextPlace (now (capture .entry)) from r ⌝ }
 {
+    if capture.len() < SYNCINFO {
+        return from;
+    }
+    let end = capture.len() - SYNCINFO;
     let mut place = from;
-    while place + SYNCINFO < capture.len() {
+    while place < end {
         if is_sync(capture, place) {
             return place;
         }

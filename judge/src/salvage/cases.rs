@@ -4,19 +4,15 @@
 //! answers: a disagreement stops the program.
 
 use super::again::{Lent, Runs, Visit, Walk};
-use super::goals::{Reached, SYNC};
+use super::goals::Reached;
 use super::salvage;
-use crate::agree::Judge;
 use crate::corners;
-use crate::craft::{sized, small, Asked};
-use crate::cut::Summary;
-use crate::draw::{accepted, Style};
+use crate::craft::{sized, small};
 use crate::frames;
 use crate::hex;
-use crate::layout::{row_at, SalvageAnswer, ENTRY, ROW};
-use crate::names::number;
-use crate::rng::Rng;
-use std::collections::{BTreeMap, BTreeSet};
+use crate::layout::{SalvageAnswer, ENTRY, ROW};
+use crate::pieces::{refuse, Pieces, SYNC};
+use std::collections::BTreeSet;
 
 /// One call and the judge's answer, with every number and byte of the lent runs after it.
 pub struct Case<'a> {
@@ -43,12 +39,7 @@ impl Amounts {
 }
 
 pub struct Salvages<'s> {
-    rng: Rng,
-    judge: Judge,
-    /// Accepted frames, most of them short.
-    frames: Vec<Vec<u8>>,
-    /// Inputs that are refused, by their number.
-    refused: BTreeMap<u32, Vec<Vec<u8>>>,
+    pieces: Pieces,
     pub captures: usize,
     pub calls: usize,
     pub reached: Reached,
@@ -58,10 +49,7 @@ pub struct Salvages<'s> {
 impl<'s> Salvages<'s> {
     pub fn new(seed: u64, sink: &'s mut dyn FnMut(&Case<'_>)) -> Self {
         Salvages {
-            rng: Rng(seed ^ 0x5A17A6E),
-            judge: Judge::default(),
-            frames: Vec::new(),
-            refused: BTreeMap::new(),
+            pieces: Pieces::new(seed ^ 0x5A17A6E),
             captures: 0,
             calls: 0,
             reached: Reached::default(),
@@ -91,9 +79,9 @@ impl<'s> Salvages<'s> {
 
     /// A capture's walk with ample rooms.
     fn walk<'a>(&mut self, capture: &'a [u8]) -> Walk<'a> {
-        let walk = Walk::new(&mut self.judge, capture);
+        let walk = Walk::new(&mut self.pieces.judge, capture);
         self.captures += 1;
-        self.reached.capture(&walk, &mut self.judge);
+        self.reached.capture(&walk, &mut self.pieces.judge);
         walk
     }
 
@@ -101,9 +89,9 @@ impl<'s> Salvages<'s> {
     fn sufficient(&mut self, walk: &Walk<'_>) {
         let need = walk.need();
         let lent = Lent {
-            numbers: need.numbers + self.rng.below(ROW),
-            list: need.list + self.rng.below(ENTRY),
-            bytes: need.bytes + self.rng.below(2),
+            numbers: need.numbers + self.pieces.rng.below(ROW),
+            list: need.list + self.pieces.rng.below(ENTRY),
+            bytes: need.bytes + self.pieces.rng.below(2),
         };
         self.call(walk, lent);
     }
@@ -133,9 +121,9 @@ impl<'s> Salvages<'s> {
         }
         for _ in 0..random_rooms {
             let lent = Lent {
-                numbers: self.rng.pick(&rooms),
-                list: self.rng.pick(&lists),
-                bytes: self.rng.pick(&outputs),
+                numbers: self.pieces.rng.pick(&rooms),
+                list: self.pieces.rng.pick(&lists),
+                bytes: self.pieces.rng.pick(&outputs),
             };
             self.call(&walk, lent);
         }
@@ -147,7 +135,7 @@ impl<'s> Salvages<'s> {
         sizes.sort();
         sizes.dedup();
         while sizes.len() > most {
-            let at = 1 + self.rng.below(sizes.len() - 2);
+            let at = 1 + self.pieces.rng.below(sizes.len() - 2);
             sizes.remove(at);
         }
         sizes
@@ -156,7 +144,7 @@ impl<'s> Salvages<'s> {
     /// Rooms of which one, two or all three run out at one place, or at the gap before it: at any frame, and where the most rows are
     /// needed.
     fn at_one_place(&mut self, walk: &Walk<'_>) {
-        let frame = (!walk.frames.is_empty()).then(|| self.rng.pick(&walk.frames));
+        let frame = (!walk.frames.is_empty()).then(|| self.pieces.rng.pick(&walk.frames));
         let most = walk.visits.iter().max_by_key(|visit| visit.count());
         let places = [frame.map(|f| f.place), most.map(|visit| visit.place)];
         for place in places.into_iter().flatten() {
@@ -169,144 +157,16 @@ impl<'s> Salvages<'s> {
                 for entries in [entries.saturating_sub(1), entries] {
                     let mut lent = walk.need();
                     if short & 1 != 0 {
-                        lent.numbers = ROW * rows.saturating_sub(1) + self.rng.below(ROW);
+                        lent.numbers = ROW * rows.saturating_sub(1) + self.pieces.rng.below(ROW);
                     }
                     if short & 2 != 0 {
-                        lent.list = ENTRY * entries + self.rng.below(ENTRY);
+                        lent.list = ENTRY * entries + self.pieces.rng.below(ENTRY);
                     }
                     if short & 4 != 0 {
-                        lent.bytes = written + self.rng.below(128);
+                        lent.bytes = written + self.pieces.rng.below(128);
                     }
                     self.call(walk, lent);
                 }
-            }
-        }
-    }
-
-    /// The frames and the refused inputs that captures are made of.
-    fn gather(&mut self) {
-        for corner in corners::all() {
-            if corner.place > 0 || corner.rows.is_some() || corner.capture.len() > 400 {
-                continue;
-            }
-            match corner.number {
-                0 => self.frames.push(corner.capture),
-                n => self.refused.entry(n).or_default().push(corner.capture),
-            }
-        }
-        for i in 0..40 {
-            let mut style = Style::random(&mut self.rng);
-            if i % 8 > 0 {
-                style.frmsizecod = self.rng.below(8);
-            }
-            self.frames.extend(accepted(style, &mut self.rng));
-        }
-        for (_, stream) in frames::kept() {
-            match self.judge.ample(&stream, 0).answer.verdict {
-                Ok(Summary { bytes, .. }) if bytes < 700 => {
-                    self.frames.push(stream[..bytes].to_vec());
-                }
-                _ => {}
-            }
-        }
-    }
-
-    fn frame(&mut self) -> Vec<u8> {
-        let at = self.rng.below(self.frames.len());
-        self.frames[at].clone()
-    }
-
-    /// A frame of 128 bytes.
-    fn short_frame(&mut self) -> Vec<u8> {
-        loop {
-            let frame = self.frame();
-            if frame.len() == 128 {
-                return frame;
-            }
-        }
-    }
-
-    /// A frame with a skip field that has another frame in it, and where that begins.
-    fn nested(&mut self) -> (Vec<u8>, usize) {
-        let inner = self.short_frame();
-        let block = self.rng.below(6) as i8;
-        let mut frame = sized(0, 10, &|a: &Asked| match a.name {
-            "skiple" if a.block == block => Some(1),
-            "skipl" => Some(inner.len() as u32 + 1),
-            _ => None,
-        });
-        let rows = self.judge.ample(&frame, 0).rows;
-        let skip = number("skipfld");
-        let mut spans = rows.chunks(ROW).filter(|r| r[row_at::NAME] == skip);
-        let at = spans.next().expect("a skip field")[row_at::POS] as usize;
-        let place = at.div_ceil(8);
-        frame[place..place + inner.len()].copy_from_slice(&inner);
-        (frame, place)
-    }
-
-    fn refused_one(&mut self) -> Vec<u8> {
-        let numbers: Vec<u32> = self.refused.keys().copied().collect();
-        let of_number = &self.refused[&self.rng.pick(&numbers)];
-        of_number[self.rng.below(of_number.len())].clone()
-    }
-
-    /// A frame that is refused after more rows than any of 128 bytes has that is crafted plainly.
-    fn refused_late(&mut self) -> Vec<u8> {
-        loop {
-            let mut frame = self.frame();
-            let rows = self.judge.ample(&frame, 0).rows;
-            let last = &rows[rows.len() - ROW..];
-            let at = last[row_at::POS] as usize / 8;
-            frame[at.saturating_sub(self.rng.below(30))..].fill(0xFF);
-            let damaged = self.judge.ample(&frame, 0);
-            if damaged.answer.verdict.is_err() && damaged.answer.rows > 100 {
-                return frame;
-            }
-        }
-    }
-
-    /// A part of a capture.
-    fn piece(&mut self) -> Vec<u8> {
-        let length = 1 + self.rng.below(40);
-        match self.rng.below(20) {
-            0..9 => self.frame(),
-            9 => self.rng.bytes(length),
-            10 => vec![0; length],
-            11 => [&SYNC[..], &self.rng.bytes(length % 10)].concat(),
-            12 => SYNC.repeat(1 + length % 12),
-            13 => vec![self.rng.pick(&SYNC); 1 + length % 5],
-            14 => {
-                // The beginning or the end of a frame.
-                let frame = self.frame();
-                let at = self.rng.below(frame.len());
-                match self.rng.chance(60) {
-                    true => frame[..at].to_vec(),
-                    false => frame[at..].to_vec(),
-                }
-            }
-            15 => {
-                // A frame with some bytes lost.
-                let mut frame = self.frame();
-                let at = self.rng.below(frame.len());
-                let end = frame.len().min(at + 1 + self.rng.below(60));
-                frame.drain(at..end);
-                frame
-            }
-            16 => self.refused_one(),
-            17 => self.refused_late(),
-            18 => {
-                // A bit of a frame turned.
-                let mut frame = self.frame();
-                let at = self.rng.below(8 * frame.len());
-                frame[at / 8] ^= 128 >> (at % 8);
-                frame
-            }
-            _ => {
-                let (mut frame, _) = self.nested();
-                if self.rng.chance(70) {
-                    refuse(&mut frame);
-                }
-                frame
             }
         }
     }
@@ -338,7 +198,7 @@ impl<'s> Salvages<'s> {
                 }
             }
             if i >= 400 {
-                lents = vec![self.rng.pick(&lents)];
+                lents = vec![self.pieces.rng.pick(&lents)];
             }
             for lent in lents {
                 self.call(&walk, lent);
@@ -373,7 +233,7 @@ impl<'s> Salvages<'s> {
 
     /// Two frames, one of them cut at every byte.
     fn cut_anywhere(&mut self) {
-        let (first, second) = (self.short_frame(), self.short_frame());
+        let (first, second) = (self.pieces.short_frame(), self.pieces.short_frame());
         for at in 0..=128 {
             self.once(&[&first[..at], &second].concat());
             self.once(&[&first[at..], &second].concat());
@@ -383,9 +243,9 @@ impl<'s> Salvages<'s> {
 
     /// Every refused input with a frame before and after it, and at the capture's end.
     fn refused_ones(&mut self) {
-        let refused: Vec<Vec<u8>> = self.refused.values().flatten().cloned().collect();
+        let refused: Vec<Vec<u8>> = self.pieces.refused.values().flatten().cloned().collect();
         for (i, bytes) in refused.iter().enumerate() {
-            let (before, after) = (self.short_frame(), self.short_frame());
+            let (before, after) = (self.pieces.short_frame(), self.pieces.short_frame());
             let capture = [&before[..], bytes, &after].concat();
             match i % 10 {
                 0 => self.thoroughly(&capture, 4),
@@ -396,7 +256,7 @@ impl<'s> Salvages<'s> {
         // With rows for the frames and too few for the place that is refused.
         let frame = small(&|_| None);
         for _ in 0..3 {
-            let late = self.refused_late();
+            let late = self.pieces.refused_late();
             self.thoroughly(&[&frame[..], &late, &frame].concat(), 8);
             self.thoroughly(&[&frame[..], &[9], &late, &frame].concat(), 8);
             self.thoroughly(&[&frame[..], &[9], &late].concat(), 8);
@@ -406,7 +266,7 @@ impl<'s> Salvages<'s> {
     /// Frames in frames: whole, with the outer one refused, and cut.
     fn nested_ones(&mut self) {
         for _ in 0..6 {
-            let (frame, place) = self.nested();
+            let (frame, place) = self.pieces.nested();
             self.thoroughly(&frame, 8);
             self.once(&frame[..place + 128]);
             self.once(&frame[1..]);
@@ -422,11 +282,11 @@ impl<'s> Salvages<'s> {
         let corners = corners::all();
         let most = corners.iter().find(|corner| corner.name == "most-rows");
         let most = &most.expect("a corner case").capture;
-        let frame = self.short_frame();
+        let frame = self.pieces.short_frame();
         self.thoroughly(&[&frame[..], &[7; 3], &largest, &frame].concat(), 8);
         self.thoroughly(&[&frame[..], most, &[0], &frame].concat(), 8);
         self.once(&[&frame[..], &largest[..3839]].concat());
-        let gap = self.rng.bytes(4000);
+        let gap = self.pieces.rng.bytes(4000);
         self.thoroughly(&[&frame[..], &gap, &frame].concat(), 4);
         for length in [300, 301] {
             let all = &SYNC.repeat(200)[..length];
@@ -434,25 +294,25 @@ impl<'s> Salvages<'s> {
             self.thoroughly(&all[1..], 8);
             self.thoroughly(&[all, &frame, all].concat(), 8);
             self.reached.add("only sync words");
-            let random = self.rng.bytes(length);
+            let random = self.pieces.rng.bytes(length);
             self.thoroughly(&random, 8);
             self.reached.add("random bytes");
         }
     }
 
     fn mixed(&mut self) {
-        let pieces = 1 + self.rng.below(8);
-        let pieces: Vec<Vec<u8>> = (0..pieces).map(|_| self.piece()).collect();
+        let pieces = 1 + self.pieces.rng.below(8);
+        let pieces: Vec<Vec<u8>> = (0..pieces).map(|_| self.pieces.piece()).collect();
         self.thoroughly(&pieces.concat(), 16);
     }
 
     /// Some frames of an encoder's stream, in packets of one size, of which some are lost.
     fn lost(&mut self, stream: &[u8]) {
-        let kept = stream.len().min(6000 + self.rng.below(2000));
-        let size = self.rng.pick(&[100, 184, 188, 500, 1316]);
+        let kept = stream.len().min(6000 + self.pieces.rng.below(2000));
+        let size = self.pieces.rng.pick(&[100, 184, 188, 500, 1316]);
         let mut capture = stream[..kept].to_vec();
         for at in (0..kept.div_ceil(size)).rev() {
-            if self.rng.chance(15) {
+            if self.pieces.rng.chance(15) {
                 let end = capture.len().min(size * (at + 1));
                 capture.drain(size * at..end);
                 self.reached.add("packets lost");
@@ -463,14 +323,14 @@ impl<'s> Salvages<'s> {
 
     /// Captures of any pieces alone.
     pub fn run_mixed(&mut self, captures: usize) {
-        self.gather();
+        self.pieces.gather();
         for _ in 0..captures {
             self.mixed();
         }
     }
 
     pub fn run(&mut self, amounts: Amounts) {
-        self.gather();
+        self.pieces.gather();
         self.shortest();
         self.surrounded();
         self.cut_anywhere();
@@ -485,15 +345,10 @@ impl<'s> Salvages<'s> {
             .filter(|(name, _)| !name.starts_with("refused"))
             .collect();
         for _ in 0..amounts.lost {
-            let at = self.rng.below(streams.len());
+            let at = self.pieces.rng.below(streams.len());
             self.lost(&streams[at].1);
         }
     }
-}
-
-/// Gives a frame bsid 31, so that it is refused.
-fn refuse(frame: &mut [u8]) {
-    frame[5] |= 0xF8;
 }
 
 /// Lengths of the output around the ends of the frames in it.

@@ -6,12 +6,10 @@ use crate::agree::Judge;
 use crate::corners::MOST_ROWS;
 use crate::cut::REFUSALS;
 use crate::layout::{ENTRY, ROW};
+use crate::pieces::SYNC;
 use crate::tables::ac3_frame_words;
 use std::collections::{BTreeMap, BTreeSet};
 use std::ops::RangeInclusive;
-
-/// The sync word.
-pub(super) const SYNC: [u8; 2] = [0x0B, 0x77];
 
 /// Which of a capture's frames a check fails at.
 const WHICH: [&str; 4] = [

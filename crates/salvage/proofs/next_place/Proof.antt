@@ -19,18 +19,20 @@ further capture from place passed more unsynced = record { onward = omega (arith
     go p p-from p-to (Dec.no h) = passed .unsynced p p-from (omega arith)
 
 abbrev Inv-loop : tie.InvT-loop
-Inv-loop capture from place₀ place = (place ≤ length capture) × Passed capture from place
+Inv-loop capture from end place₀ place = Passed capture from place
 
 abbrev μ-loop : tie.MeasureT-loop
-μ-loop capture from place₀ place = length capture - place
+μ-loop capture from end place₀ place = length capture - place
+
+nothing-yet : (capture : List ℕ) (from : ℕ) → Passed capture from from
+nothing-yet capture from = record { onward = omega arith; unsynced = λ p p-from p-to. absurd (omega arith) }
 
 again : tie.Need-loop-again Inv-loop μ-loop
 again c =
     let tested = c .before in
     let test = tested .before in
     let at = test .before in
-    let a = at .before .before .args in
-    (omega arith, further (a .capture .now) (a .from) (at .loop .place) (at .loop .inv .1) (test .loop-test .taken) (sym (tested .is-sync .ensures) ∙ c .if1 .left))
+    further _ _ (at .loop .place) (at .loop .inv) (omega arith) (sym (tested .is-sync .ensures) ∙ c .if2 .left)
 
 pub next-place-spec : {M : Type 1} → statement M
 next-place-spec =
@@ -38,11 +40,12 @@ next-place-spec =
     (tie.spec
     Inv-loop
     μ-loop
-    (λ c. (omega arith, record { onward = omega arith; unsynced = λ p p-from p-to. absurd (omega arith) }))  -- loop-holds
-    (λ c. search needs)  -- add-loop
+    (λ c. record { passed = nothing-yet _ _; worth = λ more. absurd (omega arith) })  -- returns
+    (λ c. search needs)  -- sub-end
+    (λ c. nothing-yet _ _)  -- loop-holds
     (λ c κs. omega arith)  -- is-sync-requires
-    (λ c. c .before .before .before .loop .inv)  -- returns
+    (λ c. record { passed = c .before .before .before .loop .inv; worth = λ _. sym (c .before .is-sync .ensures) ∙ c .if2 .taken })  -- returns-2
     (λ c. search needs)  -- add-place
     (λ c. omega arith)  -- loop-less
     again
-    (λ c. c .before .loop .inv))  -- returns-2
+    (λ c. record { passed = c .before .loop .inv; worth = λ more. absurd (omega arith) }))  -- returns-3

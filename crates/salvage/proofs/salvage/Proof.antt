@@ -22,9 +22,8 @@ again c =
     let judged = c .before in
     let read = judged .before .before in
     let test = read .before .before .before in
-    let next = c .next-place .ensures in
     passes _ _ _ _ (test .before .loop .inv) (test .loop-test .taken) (read .before .parse .ensures .0) (read .rows .given)
-    (sym (judged .before .is-met .ensures) ∙ not-true _ (judged .if1 .taken)) (next .0) (next .1)
+    (sym (judged .before .is-met .ensures) ∙ not-true _ (judged .if1 .taken)) (c .next-place .ensures .passed)
 
 inside : tie.Need-meet-requires Inv-loop μ-loop
 inside c κs =
@@ -88,8 +87,8 @@ salvage-spec =
     (λ c κs. search needs)  -- parse-requires
     (λ c κs. search needs)  -- is-met-requires
     (λ c. search needs)  -- add-next-place
-    (λ c κs. omega arith)  -- next-place-requires
-    (λ c. omega (arith, c .next-place .ensures .1 .onward))  -- loop-less
+    (λ c κs. search needs)  -- next-place-requires
+    (λ c. omega (arith, c .next-place .ensures .passed .onward))  -- loop-less
     again
     inside
     (λ c. omega arith)  -- same-length

@@ -75,6 +75,7 @@ pub enum Refusal {
 
 impl Refusal {
     /// Its number (docs/FORMAT.md).
+    #[must_use]
     pub fn number(self) -> u8 {
         match self {
             Refusal::PastTheEnd => 6,
@@ -85,6 +86,7 @@ impl Refusal {
     }
 
     /// What it means.
+    #[must_use]
     pub fn meaning(self) -> &'static str {
         match self {
             Refusal::PastTheEnd => "something would end past the given end or the data's end",

@@ -49,6 +49,7 @@ pub enum Refusal {
 
 impl Refusal {
     /// Its number (docs/FORMAT.md).
+    #[must_use]
     pub fn number(self) -> u8 {
         match self {
             Refusal::NotABurst => 30,
@@ -74,6 +75,7 @@ impl Refusal {
     }
 
     /// What it means.
+    #[must_use]
     pub fn meaning(self) -> &'static str {
         match self {
             Refusal::NotABurst => "the burst is not 6,144 bytes",

@@ -41,6 +41,7 @@ pub enum Refusal {
 
 impl Refusal {
     /// Its number (docs/FORMAT.md).
+    #[must_use]
     pub fn number(self) -> u8 {
         match self {
             Refusal::WrongWidth => 57,
@@ -50,6 +51,7 @@ impl Refusal {
     }
 
     /// What it means.
+    #[must_use]
     pub fn meaning(self) -> &'static str {
         match self {
             Refusal::WrongWidth => "the width is not 1 to 16",

@@ -34,6 +34,7 @@ pub struct Field {
 
 impl Field {
     /// An element that the caller reads itself, such as those of the tail, from the values above in their order. It has no part.
+    #[must_use]
     pub fn new(
         name: &'static str,
         role: Role,
@@ -56,6 +57,7 @@ impl Field {
     }
 
     /// The first bit after it.
+    #[must_use]
     pub fn end(&self) -> usize {
         self.pos + self.width
     }

@@ -68,11 +68,13 @@ pub struct Frame {
 
 impl Frame {
     /// The frame's length in bits, tail included.
+    #[must_use]
     pub fn total_bits(&self) -> usize {
         self.summary.bytes * 8
     }
 
     /// The first element of a role in a block (-1: outside blocks).
+    #[must_use]
     pub fn find(&self, role: Role, block: i8) -> Option<&Field> {
         self.fields
             .iter()
@@ -85,11 +87,13 @@ impl Frame {
     }
 
     /// The value of the first element of a role in a block (-1: outside blocks).
+    #[must_use]
     pub fn value(&self, role: Role, block: i8) -> Option<u32> {
         self.find(role, block).map(|f| f.value)
     }
 
     /// The first element of a name.
+    #[must_use]
     pub fn named(&self, name: &str) -> Option<&Field> {
         self.fields.iter().find(|f| f.name == name)
     }
@@ -107,11 +111,13 @@ pub struct FrameRef<'a> {
 
 impl<'a> FrameRef<'a> {
     /// The frame's length in bits, tail included.
+    #[must_use]
     pub fn total_bits(&self) -> usize {
         self.summary.bytes * 8
     }
 
     /// The first element of a role in a block (-1: outside blocks).
+    #[must_use]
     pub fn find(&self, role: Role, block: i8) -> Option<Field> {
         self.all(role).find(|f| f.block == block)
     }
@@ -122,16 +128,19 @@ impl<'a> FrameRef<'a> {
     }
 
     /// The value of the first element of a role in a block (-1: outside blocks).
+    #[must_use]
     pub fn value(&self, role: Role, block: i8) -> Option<u32> {
         self.find(role, block).map(|f| f.value)
     }
 
     /// The first element of a name.
+    #[must_use]
     pub fn named(&self, name: &str) -> Option<Field> {
         self.fields.clone().find(|f| f.name == name)
     }
 
     /// The frame with a list of its own.
+    #[must_use]
     pub fn to_frame(&self) -> Frame {
         Frame {
             fields: self.fields.clone().list(),
@@ -177,6 +186,7 @@ pub(crate) fn unfit(name: i32, block: i32) -> Option<Unfit> {
 
 impl Refusal {
     /// What the number means.
+    #[must_use]
     pub fn meaning(&self) -> &'static str {
         meaning(self.number)
     }

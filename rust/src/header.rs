@@ -67,16 +67,19 @@ pub struct Header {
 
 impl Header {
     /// The first element of a role.
+    #[must_use]
     pub fn find(&self, role: Role) -> Option<&Field> {
         self.fields.iter().find(|f| f.role == role)
     }
 
     /// The value of the first element of a role.
+    #[must_use]
     pub fn value(&self, role: Role) -> Option<u32> {
         self.find(role).map(|f| f.value)
     }
 
     /// The element of a name.
+    #[must_use]
     pub fn named(&self, name: &str) -> Option<&Field> {
         self.fields.iter().find(|f| f.name == name)
     }
@@ -94,21 +97,25 @@ pub struct HeaderRef<'a> {
 
 impl HeaderRef<'_> {
     /// The first element of a role.
+    #[must_use]
     pub fn find(&self, role: Role) -> Option<Field> {
         self.fields.clone().of_role(role).next()
     }
 
     /// The value of the first element of a role.
+    #[must_use]
     pub fn value(&self, role: Role) -> Option<u32> {
         self.find(role).map(|f| f.value)
     }
 
     /// The element of a name.
+    #[must_use]
     pub fn named(&self, name: &str) -> Option<Field> {
         self.fields.clone().find(|f| f.name == name)
     }
 
     /// The header with a list of its own.
+    #[must_use]
     pub fn to_header(&self) -> Header {
         Header {
             fields: self.fields.clone().collect(),

@@ -78,6 +78,7 @@ impl Entry {
     }
 
     /// Its bytes in the capture.
+    #[must_use]
     pub fn range(&self) -> Range<usize> {
         self.place..self.place + self.length
     }
@@ -98,6 +99,7 @@ pub enum Refusal {
 
 impl Refusal {
     /// Its number (docs/FORMAT.md).
+    #[must_use]
     pub fn number(self) -> u8 {
         match self {
             Refusal::OtherEntry => 56,
@@ -116,6 +118,7 @@ impl Refusal {
     }
 
     /// What it means.
+    #[must_use]
     pub fn meaning(self) -> &'static str {
         match self {
             Refusal::OtherEntry => "parsing at the last entry's place does not give that entry",
@@ -141,11 +144,13 @@ pub struct Index {
 
 impl Index {
     /// The index of a capture that has no bytes yet.
+    #[must_use]
     pub fn new() -> Index {
         Index::default()
     }
 
     /// Makes the index of a capture. There is room for whatever it holds, so nothing is refused.
+    #[must_use]
     pub fn of(capture: &[u8]) -> Index {
         let mut index = Index::new();
         index
@@ -186,11 +191,13 @@ impl Index {
     }
 
     /// How many frames it has.
+    #[must_use]
     pub fn len(&self) -> usize {
         self.numbers.len() / INDEX_ENTRY_NUMBERS
     }
 
     /// Whether it has none.
+    #[must_use]
     pub fn is_empty(&self) -> bool {
         self.numbers.is_empty()
     }
@@ -202,22 +209,26 @@ impl Index {
     }
 
     /// A frame, counted from 0.
+    #[must_use]
     pub fn get(&self, frame: usize) -> Option<Entry> {
         let numbers = self.numbers.chunks_exact(INDEX_ENTRY_NUMBERS).nth(frame)?;
         Some(Entry::of(numbers))
     }
 
     /// The last frame.
+    #[must_use]
     pub fn last(&self) -> Option<Entry> {
         self.entries().next_back()
     }
 
     /// The end of the last frame: the first byte that an extension looks at, but for that frame.
+    #[must_use]
     pub fn end(&self) -> usize {
         self.last().map_or(0, |entry| entry.range().end)
     }
 
     /// Its numbers, five to a frame: place, length, acmod, dialnorm, second dialnorm or 0. So an index can be written to a file.
+    #[must_use]
     pub fn numbers(&self) -> &[usize] {
         &self.numbers
     }
@@ -233,6 +244,7 @@ impl Index {
     /// assert_eq!(Index::from_numbers(index.numbers().to_vec()), Some(index.clone()));
     /// assert_eq!(Index::from_numbers(index.numbers()[1..].to_vec()), None);
     /// ```
+    #[must_use]
     pub fn from_numbers(numbers: Vec<usize>) -> Option<Index> {
         let entries = numbers.chunks(INDEX_ENTRY_NUMBERS);
         let mut end = 0;
@@ -249,6 +261,7 @@ impl Index {
 }
 
 /// Frames that no capture of so many bytes exceeds: a frame has 128 bytes at least.
+#[must_use]
 pub const fn most_frames(bytes: usize) -> usize {
     bytes / LEAST_BYTES
 }

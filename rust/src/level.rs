@@ -42,6 +42,7 @@ pub enum Changed {
 
 impl Changed {
     /// Its name, as the original spells it.
+    #[must_use]
     pub fn name(self) -> &'static str {
         match self {
             Changed::Crc1 => "crc1",
@@ -156,6 +157,7 @@ pub enum Refusal {
 
 impl Refusal {
     /// Its number (docs/FORMAT.md).
+    #[must_use]
     pub fn number(self) -> u8 {
         match self {
             Refusal::Frame(number) => number,
@@ -175,6 +177,7 @@ impl Refusal {
     }
 
     /// What it means.
+    #[must_use]
     pub fn meaning(self) -> &'static str {
         match self {
             Refusal::Frame(number) => meaning(number),

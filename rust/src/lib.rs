@@ -159,6 +159,7 @@
 //! No input makes a function of this crate panic. They do where the linked archive is not Ferrysprig's and gives numbers without meaning.
 
 #![warn(missing_docs)]
+#![deny(unsafe_code)] // but for raw
 
 pub mod aht;
 pub mod burst;
@@ -173,6 +174,7 @@ pub mod listing;
 mod names;
 mod parser;
 pub mod profile;
+#[allow(unsafe_code)]
 mod raw;
 pub mod salvage;
 
@@ -188,6 +190,7 @@ pub use parser::{
 /// True when bits `[a, a+n)` of `x` equal bits `[b, b+n)` of `y`, most significant bit of a byte first: what an editor asks of the spans
 /// that it must not change. Where either range ends past its bytes the answer is false (the original panics there); a range of no bits ends
 /// where it starts.
+#[must_use]
 pub fn range_eq(x: &[u8], a: usize, y: &[u8], b: usize, n: usize) -> bool {
     raw::range_eq(x, a, y, b, n)
 }

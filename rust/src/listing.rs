@@ -54,11 +54,13 @@ impl Refusal {
     ];
 
     /// Its number (docs/FORMAT.md).
+    #[must_use]
     pub fn number(self) -> u8 {
         40 + self as u8
     }
 
     /// What it means.
+    #[must_use]
     pub fn meaning(self) -> &'static str {
         match self {
             Refusal::Malformed => "a line is malformed",
@@ -92,6 +94,7 @@ impl fmt::Display for Refusal {
 impl std::error::Error for Refusal {}
 
 /// Bytes that no text of a packed listing of so many bytes exceeds: a group is one byte, and stands for three digits and a space at most.
+#[must_use]
 pub const fn most_text(packed_bytes: usize) -> usize {
     packed_bytes.saturating_mul(4)
 }
@@ -129,7 +132,7 @@ pub fn unpack_into<'a>(packed: &[u8], out: &'a mut [u8]) -> Result<&'a [u8], Ref
     done(raw::unpack(packed, out))
 }
 
-fn done<'a>((answer, written): (PackAnswer, &'a [u8])) -> Result<&'a [u8], Refusal> {
+fn done((answer, written): (PackAnswer, &[u8])) -> Result<&[u8], Refusal> {
     match answer[pack_answer_at::REFUSAL] {
         0 => Ok(written),
         number => Err(Refusal::of(number)),

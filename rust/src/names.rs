@@ -112,6 +112,7 @@ pub enum Role {
 
 impl Role {
     /// Elements that hold a gain word or its presence flag.
+    #[must_use]
     pub fn is_drc(self) -> bool {
         matches!(
             self,
@@ -120,11 +121,13 @@ impl Role {
     }
 
     /// Elements whose value is a whole-frame checksum: after any edit of the frame they are wrong until they are computed anew.
+    #[must_use]
     pub fn is_checksum(self) -> bool {
         matches!(self, Role::Crc1 | Role::Crc2)
     }
 
     /// Spans: their bits are not a value.
+    #[must_use]
     pub fn is_span(self) -> bool {
         matches!(
             self,

@@ -156,6 +156,7 @@ pub struct Parser {
 
 impl Parser {
     /// A parser with its room.
+    #[must_use]
     pub fn new() -> Parser {
         Parser {
             room: vec![0; MOST_ROWS * ROW_NUMBERS].into(),

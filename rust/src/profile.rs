@@ -72,11 +72,13 @@ impl Rule {
     ];
 
     /// Its number (docs/FORMAT.md).
+    #[must_use]
     pub fn number(self) -> u8 {
         self as u8 + 1
     }
 
     /// What is wrong where it is broken.
+    #[must_use]
     pub fn meaning(self) -> &'static str {
         match self {
             Rule::Fscod => "fscod is not 0",
@@ -126,6 +128,7 @@ pub struct Refusal {
 
 impl Refusal {
     /// What the number means.
+    #[must_use]
     pub fn meaning(self) -> &'static str {
         meaning(self.number)
     }

@@ -81,12 +81,14 @@ impl Entry {
     ///
     /// assert_eq!(Entry::Gap { place: 100, length: 7 }.range(), 100..107);
     /// ```
+    #[must_use]
     pub fn range(self) -> Range<usize> {
         let (Entry::Frame { place, length } | Entry::Gap { place, length }) = self;
         place..place + length
     }
 
     /// Whether it is a gap.
+    #[must_use]
     pub fn is_gap(self) -> bool {
         matches!(self, Entry::Gap { .. })
     }
@@ -121,6 +123,7 @@ pub enum Refusal {
 
 impl Refusal {
     /// Its number (docs/FORMAT.md).
+    #[must_use]
     pub fn number(self) -> u8 {
         match self {
             Refusal::NoRow => 37,
@@ -139,6 +142,7 @@ impl Refusal {
     }
 
     /// What it means.
+    #[must_use]
     pub fn meaning(self) -> &'static str {
         match self {
             Refusal::NoRow => "the rows do not suffice for a place of the capture",
@@ -167,6 +171,7 @@ pub struct Salvaged {
 }
 
 /// Goes through a capture. There is room for whatever it holds, so nothing is refused; an empty capture has no entry.
+#[must_use]
 pub fn salvage(capture: &[u8]) -> Salvaged {
     let mut list = vec![0; ENTRY_NUMBERS * most_entries(capture.len())];
     let mut frames = vec![0; capture.len()];
@@ -179,6 +184,7 @@ pub fn salvage(capture: &[u8]) -> Salvaged {
 }
 
 /// Entries that no list of a capture of so many bytes exceeds: a frame has 128 bytes at least, and no gap follows another.
+#[must_use]
 pub const fn most_entries(bytes: usize) -> usize {
     2 * (bytes / LEAST_BYTES) + 1
 }
@@ -199,6 +205,7 @@ impl<'a> Lent<'a> {
     }
 
     /// The first byte of the capture that is in no entry. After a refusal a walk can go on there.
+    #[must_use]
     pub fn end(&self) -> usize {
         self.entries().last().map_or(0, |entry| entry.range().end)
     }

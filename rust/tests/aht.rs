@@ -61,6 +61,7 @@ fn places_and_bins_without_bound() {
 
 /// A section among other bits, at every bit of a byte: the same width and tags.
 #[test]
+#[allow(clippy::unusual_byte_groupings)] // the groups are the section's fields
 fn equal_bits_at_other_places() {
     // gaqmod 2, gain 4, and a tag with seven bits after it; hebap 12 has mantissas of 7 bits, small ones of 5.
     let (section, width) = (0b10_1_10000_1111111_00001_00010_10001_11111_00000u64, 40);

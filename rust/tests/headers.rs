@@ -160,7 +160,7 @@ fn another_summary() {
         |told| told.rows = usize::MAX,
         |told| told.end += 1,
         |told| told.end -= 1,
-        |told| told.end = 1 << 32 | told.end,
+        |told| told.end |= 1 << 32,
         |told| told.bytes += 2,
         |told| told.bytes = 0,
         |told| told.bsid = 6,

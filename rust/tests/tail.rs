@@ -2,6 +2,7 @@
 //! the crate's fields, and the list is the original's; and its callers of `aht` call the crate's walk.
 
 #![allow(dead_code, unused_imports)] // of the original's files only a part is used
+#![allow(clippy::incompatible_msrv)] // they need a later Rust than the crate
 
 #[rustfmt::skip]
 #[path = "../../judge/ddpmeta/bitalloc_tables.rs"]

@@ -42,7 +42,7 @@ fn said(answer: &Result<Frame, Refusal>, room: &[i32]) -> Said {
                 tell(answer_at::MANTISSA_STARTS + block, start);
             }
             tell(answer_at::COORDINATES_SENT, s.coordinates_sent.into());
-            for (at, bits) in s.mantissa_bits.as_flattened().iter().enumerate() {
+            for (at, bits) in s.mantissa_bits.iter().flatten().enumerate() {
                 tell(answer_at::MANTISSA_BITS + at, *bits);
             }
         }

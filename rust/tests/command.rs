@@ -583,6 +583,15 @@ fn outputs_are_whole_or_not_there() {
     assert_eq!(folder.names(), names);
 }
 
+/// A pipe that nobody reads any more: that of a program that has ended.
+fn closed() -> Stdio {
+    let mut ended = Command::new("true");
+    let mut ended = ended.stdin(Stdio::piped()).spawn().unwrap();
+    let pipe = ended.stdin.take().unwrap();
+    ended.wait().unwrap();
+    pipe.into()
+}
+
 /// Whoever reads may go, and what cannot be written is trouble: no panic, and nothing is said to nobody.
 #[test]
 fn readers_that_go() {
@@ -594,15 +603,9 @@ fn readers_that_go() {
     let burst = ["burst", &capture, "-"];
     let help = ["list", "--help"];
     for arguments in [&all[..], &levels, &burst, &help] {
-        let mut gone = command();
-        gone.args(arguments).stdin(Stdio::null());
-        let mut child = gone
-            .stdout(Stdio::piped())
-            .stderr(Stdio::piped())
-            .spawn()
-            .unwrap();
-        drop(child.stdout.take());
-        let output = child.wait_with_output().unwrap();
+        let mut unread = command();
+        unread.args(arguments).stdin(Stdio::null()).stdout(closed());
+        let output = unread.output().unwrap();
         assert_eq!(
             (status(&output), err(&output)),
             (2, String::new()),

@@ -83,10 +83,9 @@ fn written(
     for number in index.numbers() {
         out.put(&number.to_le_bytes())?;
     }
-    let listed = out.is_standard();
+    let silent = out.is_standard;
     out.keep()?;
-    // Where the index goes to standard output, nothing else does.
-    if !listed {
+    if !silent {
         let mut text = Text::new()?;
         if given.has("--changes") {
             changes(index, &mut text)?;

@@ -71,6 +71,8 @@ pub fn print(text: impl Display) -> Result<(), End> {
 pub struct Output {
     /// What messages call it.
     pub name: String,
+    /// Whether it is standard output: then nothing else is printed there.
+    pub is_standard: bool,
     file: BufWriter<File>,
     /// Where it is written, and where it belongs.
     beside: Option<(PathBuf, PathBuf)>,
@@ -104,7 +106,8 @@ impl Output {
     /// The file that an input came from.
     pub fn over(path: &Path, input: &Input) -> Result<Output, End> {
         if !input.metadata.is_file() || path.as_os_str() == "-" {
-            return Err(End::trouble(&input.name, "--in-place takes a file"));
+            let why = "it is no file, and cannot be written over";
+            return Err(End::trouble(&input.name, why));
         }
         Output::at(path, Some(input.metadata.clone()))
     }
@@ -115,7 +118,9 @@ impl Output {
             let why = "it is a terminal, and the output no text; name a file";
             return Err(End::trouble(STANDARD_OUTPUT, why));
         }
-        Ok(Output::to(STANDARD_OUTPUT.into(), file, None))
+        let mut standard = Output::to(STANDARD_OUTPUT.into(), file, None);
+        standard.is_standard = true;
+        Ok(standard)
     }
 
     fn at(path: &Path, there: Option<Metadata>) -> Result<Output, End> {
@@ -133,14 +138,10 @@ impl Output {
     fn to(name: String, file: File, beside: Option<(PathBuf, PathBuf)>) -> Output {
         Output {
             name,
+            is_standard: false,
             file: BufWriter::with_capacity(1 << 16, file),
             beside,
         }
-    }
-
-    /// Whether it is standard output.
-    pub fn is_standard(&self) -> bool {
-        self.name == STANDARD_OUTPUT
     }
 
     pub fn put(&mut self, bytes: &[u8]) -> Result<(), End> {

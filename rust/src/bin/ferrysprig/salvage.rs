@@ -31,8 +31,7 @@ struct Tally {
 fn run(given: &Arguments) -> Result<Verdict, End> {
     let input = Input::open(given.operand(0))?;
     let mut out = Output::of(given, &input, Holds::Bytes)?;
-    // Where the frames go to standard output, the list does not.
-    let mut text = match out.is_standard() {
+    let mut text = match out.is_standard {
         true => None,
         false => Some(Text::new()?),
     };

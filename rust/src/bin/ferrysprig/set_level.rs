@@ -27,8 +27,7 @@ fn run(given: &Arguments) -> Result<Verdict, End> {
     let programme = given.number("--programme")?.unwrap_or(1);
     let mut capture = Capture::open(given.operand(1))?;
     let mut out = Output::of(given, capture.input(), Holds::Bytes)?;
-    // Where the frames go to standard output, nothing else does.
-    let mut text = match out.is_standard() {
+    let mut text = match out.is_standard {
         true => None,
         false => Some(Text::new()?),
     };

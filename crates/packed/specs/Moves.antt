@@ -1,8 +1,10 @@
 -- How the code goes over a text, by one byte or by a whole number at a time. No part of the definition: it says what a turn of the code is to
 -- the definition's reader.
 use mathlib.Core.Path.{_≡_}
+use mathlib.Core.Bool.{cond}
 use mathlib.Core.List.{List, [], _∷_, _++_}
-use Prim.Native.Nat.{ℕ, _+_, _≤_, _<_}
+use Prim.Native.Nat.{ℕ, _+_, _-_, _≤_, _<_, min}
+use lib.Dec.{eqb}
 use lib.ListN.{length, drop, getD}
 use Rattle.listing.specs.Number.{signed, separator}
 use Rattle.packed.specs.declared.Part.{Part}
@@ -20,6 +22,13 @@ pub record Moves {S : Type 0} (step : S → ℕ → S) (tell : S → ℕ → Lis
   pub within : i′ ≤ length bytes
   pub state : after step s (drop i bytes) ≡ after step s′ (drop i′ bytes)
   pub tells : told step tell s (drop i bytes) ≡ e ++ told step tell s′ (drop i′ bytes)
+
+-- from the state s and byte i on, the reading ends as from the start, and what it tells and the size so far come to the same
+pub record Counted {S : Type 0} (step : S → ℕ → S) (tell : S → ℕ → List ℕ) (bytes : List ℕ) (room : ℕ) (start s : S) (size i : ℕ) : Type 0 where
+  pub within : i ≤ length bytes
+  pub state : after step s (drop i bytes) ≡ after step start bytes
+  pub count : min (size + length (told step tell s (drop i bytes))) (room + 1) ≡ min (length (told step tell start bytes)) (room + 1)
+  pub most : size ≤ room + 1
 
 -- from byte i on stand a number and the byte that ends it, if an end is told
 abbrev pub SpeltAt : List ℕ → ℕ → ℕ → Spelt → Type 0
@@ -49,3 +58,14 @@ numbered (Word rows at) v = Word rows at
 numbered (Last rows left p) v = lastOn rows left (Ended v)
 numbered (End rows) v = End rows
 numbered (Stop n) v = Stop n
+
+-- where a row's number is to begin, which `left` others follow
+abbrev pub cell : ℕ → ℕ → Text
+cell rows left = cond (eqb left 8) (Line rows) (Row rows left Fresh)
+
+-- the row count and the numbers that follow, at the number after it
+abbrev pub rowsAfter : ℕ → ℕ → ℕ
+rowsAfter rows left = cond (eqb left 0) (rows + 1) rows
+
+abbrev pub leftAfter : ℕ → ℕ
+leftAfter left = cond (eqb left 0) 8 (left - 1)

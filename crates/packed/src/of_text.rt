@@ -7,17 +7,15 @@ use super::Turn;
 use super::Yield;
 use super::at_once;
 use super::numbers;
+use super::rows;
 ghost use mathlib.Core.Path.{_≡_};
 ghost use Prim.Native.Nat.{_+_, _^_, _≤_, _<_, min};
 ghost use lib.ListN.{length};
 ghost use lib.Seq.{sets};
 ghost use Rattle.listing.specs.Listing.{grouped};
-ghost use Rattle.packed.specs.Moves.{Moves, freshEnd, numberEnd, numbered};
+ghost use Rattle.packed.specs.Moves.{Moves, cell, freshEnd, numberEnd, numbered};
 ghost use Rattle.packed.specs.Machine.{after, told};
 ghost use Rattle.packed.specs.Text.{next, rowEnd, lettered, rowOn, lastOn, step, yields, tell, verdict, count, listed, ended};
-
-// The count of no rows, stored plus one.
-const NO_ROWS: usize = 1;
 
 fn fresh_next(sep: u8, b: u8) -> Next
     ensures { λ r. ⌜ r ≡ next Part.Fresh sep b ⌝ }
@@ -306,14 +304,25 @@ pub fn count_of(s: Text) -> usize
     }
 }
 
+// Where a row's number is to begin.
+fn cell_of(rows: usize, left: usize) -> Text
+    ensures { λ r. ⌜ r ≡ cell rows left ⌝ }
+{
+    if left == 8 {
+        return Text::Line(rows);
+    }
+    Text::Row(rows, left, Part::Fresh)
+}
+
 // Where the reading of a text ends, and how many bytes it tells.
 pub fn measure(listing: &[u8], room: usize) -> TextSeen
     requires { ⌜ room < 2 ^ 63 ⌝ }
     ensures { λ r. ⌜ (r .end ≡ after step (Text.Line 1) (now (listing .entry))) × (r .size ≡ min (length (told step tell (Text.Line 1) (now (listing .entry)))) (room + 1)) ⌝ }
 {
-    let mut s = Text::Line(NO_ROWS);
-    let mut size = 0;
-    let mut i = 0;
+    let front = rows::measure(listing, room);
+    let mut s = cell_of(front.rows, front.left);
+    let mut size = front.told;
+    let mut i = front.end;
     while i < listing.len() {
         let t = turn(listing, s, i);
         let told = t.told;
@@ -329,9 +338,10 @@ pub fn write(listing: &[u8], out: &mut [u8], at: usize)
     requires { ⌜ at + length (told step tell (Text.Line 1) (now listing)) ≤ length (now out) ⌝ }
     ensures { λ _. ⌜ now (out .exit) ≡ sets (now (out .entry)) at (told step tell (Text.Line 1) (now (listing .entry))) ⌝ }
 {
-    let mut s = Text::Line(NO_ROWS);
-    let mut to = at;
-    let mut i = 0;
+    let front = rows::write(listing, out, at);
+    let mut s = cell_of(front.rows, front.left);
+    let mut to = front.told;
+    let mut i = front.end;
     while i < listing.len() {
         let t = turn(listing, s, i);
         let told = t.told;

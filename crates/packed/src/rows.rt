@@ -13,6 +13,9 @@ ghost use Rattle.packed.specs.Moves.{Counted, cell, rowsAfter, leftAfter
 ghost use Rattle.packed.specs.declared.Text.the-variants.{Line};
 ghost use Rattle.packed.specs.Text.{step, tell};
 
+// The count of no rows, stored plus one.
+const NO_ROWS: usize = 1;
+
 fn rows_after(rows: usize, left: usize) -> usize
     requires { ⌜ rows < 2147483648 ⌝ }
     ensures { λ r. ⌜ r ≡ rowsAfter rows left ⌝ }
@@ -37,7 +40,7 @@ pub fn measure(text: &[u8], room: usize) -> Front
     requires { ⌜ room < 2 ^ 63 ⌝ }
     ensures { λ r. ⌜ Counted step tell (now (text .entry)) room (Line 1) (cell (r .rows) (r .left)) (r .told) (r .end) ⌝ }
 {
-    let mut rows = 1;
+    let mut rows = NO_ROWS;
     let mut left = 8;
     let mut size = 0;
     let mut i = 0;
@@ -69,7 +72,7 @@ pub fn write(text: &[u8], out: &mut [u8], at: usize) -> Front
     requires { ⌜ at + length (told step tell (Line 1) (now text)) ≤ length (now out) ⌝ }
     ensures { λ r. ⌜ Left (now (out .exit)) (r .told) (told step tell (cell (r .rows) (r .left)) (drop (r .end) (now (text .entry)))) (sets (now (out .entry)) at (told step tell (Line 1) (now (text .entry)))) (at + length (told step tell (Line 1) (now (text .entry)))) (length (now (out .entry))) × (r .end ≤ length (now (text .entry))) ⌝ }
 {
-    let mut rows = 1;
+    let mut rows = NO_ROWS;
     let mut left = 8;
     let mut to = at;
     let mut i = 0;

@@ -12,8 +12,13 @@ use Rattle.packed.specs.declared.Part.the-variants.{Fresh, Minus, Closed
 use Rattle.packed.specs.declared.Next.the-variants.{Ended}
 use Rattle.packed.specs.declared.Text.{Text}
 use Rattle.packed.specs.declared.Text.the-variants.{Line, Row, Word, Last, End, Stop}
+use Rattle.packed.specs.declared.Place.{Place}
+use Rattle.packed.specs.declared.Place.the-variants.{Cell, Kind}
+use Rattle.packed.specs.declared.Packed.{Packed}
+use Rattle.packed.specs.declared.Packed.the-variants.{At}
 use Rattle.packed.specs.declared.Spelt.{Spelt}
 use Rattle.packed.specs.Machine.{after, told}
+use Rattle.packed.specs.Packed as packed
 use Rattle.packed.specs.Text.{rowOn, lastOn}
 
 -- from the state s at byte i the reader goes to s′ at byte i′ and tells e
@@ -69,3 +74,18 @@ rowsAfter rows left = cond (eqb left 0) (rows + 1) rows
 
 abbrev pub leftAfter : ℕ → ℕ
 leftAfter left = cond (eqb left 0) 8 (left - 1)
+
+-- ---- a packed listing
+
+-- from byte i on stands a whole number, at whatever place of the listing, if an end is told
+abbrev pub StoredAt : List ℕ → ℕ → Spelt → Type 0
+StoredAt bytes i r =
+    i < r .end → (p : Place) → Moves packed.step packed.tell bytes (At p 0 0) i (packed.say p (r .stored)) (packed.reached p (r .stored)) (r .end)
+
+-- where a row's number is to begin, with so many rows to come, its own among them, and `left` numbers behind it; behind the rows, the kind
+abbrev pub spot : ℕ → ℕ → Packed
+spot more left = cond (eqb more 0) (At Kind 0 0) (At (Cell (more - 1) left) 0 0)
+
+-- the rows to come at the number after it
+abbrev pub rowsLeft : ℕ → ℕ → ℕ
+rowsLeft more left = cond (eqb left 0) (more - 1) more

@@ -26,7 +26,8 @@ fn rows_after(rows: usize, left: usize) -> usize
     rows
 }
 
-fn left_after(left: usize) -> usize
+// How many numbers follow the next one on its row.
+pub fn left_after(left: usize) -> usize
     ensures { λ r. ⌜ r ≡ leftAfter left ⌝ }
 {
     if left == 0 {

@@ -43,7 +43,7 @@ module _ (l : List ℕ) (at : ℕ) where
   run-first d h e m k =
       record { shown = byte-at l at h e ∙ ap (λ (x : List ℕ). x ++ drop (at + 1) l) (sym (decimal-small k)); least = m; fits = omega arith; within = omega arith }
 
-  pub run-more : {n to d : ℕ} → Run l at n to → n < 214748364 → d < 10 → to < length l → getD l to 0 ≡ 48 + d → Run l at (n * 10 + d) (to + 1)
+  pub run-more : {n to d : ℕ} → Run l at n to → n * 10 + d ≤ 2147483647 → d < 10 → to < length l → getD l to 0 ≡ 48 + d → Run l at (n * 10 + d) (to + 1)
   run-more {n} {to} {d} r f k h e =
       let c : 48 + d - 48 ≡ d = omega arith in
       let g : decimal n ++ ((48 + d) ∷ []) ≡ decimal (n * 10 + d) = next-digit n (48 + d) (r .least) (r .fits) (omega arith) (omega arith) ∙ rw c in

@@ -5,7 +5,6 @@ use super::Text;
 use super::TextSeen;
 use super::Turn;
 use super::Yield;
-use super::at_once;
 use super::numbers;
 use super::rows;
 ghost use mathlib.Core.Path.{_≡_};
@@ -13,7 +12,7 @@ ghost use Prim.Native.Nat.{_+_, _^_, _≤_, _<_, min};
 ghost use lib.ListN.{length};
 ghost use lib.Seq.{sets};
 ghost use Rattle.listing.specs.Listing.{grouped};
-ghost use Rattle.packed.specs.Moves.{Moves, cell, freshEnd, numberEnd, numbered};
+ghost use Rattle.packed.specs.Moves.{Moves, cell};
 ghost use Rattle.packed.specs.Machine.{after, told};
 ghost use Rattle.packed.specs.Text.{next, rowEnd, lettered, rowOn, lastOn, step, yields, tell, verdict, count, listed, ended};
 
@@ -215,61 +214,11 @@ fn put_yield(out: &mut [u8], at: usize, y: Yield) -> usize
     }
 }
 
-fn fresh_end(p: Part, left: usize) -> u8
-    ensures { λ r. ⌜ r ≡ freshEnd p left ⌝ }
-{
-    match p {
-        Part::Fresh => listing::separator_of(left),
-        Part::Minus => 0,
-        Part::Closed(_) => 0,
-        Part::Open(_) => 0,
-    }
-}
-
-// The byte that ends a number which is to begin here; 0 where none is.
-fn number_end(s: Text) -> u8
-    ensures { λ r. ⌜ r ≡ numberEnd s ⌝ }
-{
-    match s {
-        Text::Line(_) => 32,
-        Text::Row(_, left, p) => fresh_end(p, left),
-        Text::Word(_, _) => 0,
-        Text::Last(_, left, p) => fresh_end(p, left),
-        Text::End(_) => 0,
-        Text::Stop(_) => 0,
-    }
-}
-
-// After a whole number.
-fn number_on(s: Text, v: usize) -> Text
-    ensures { λ r. ⌜ r ≡ numbered s v ⌝ }
-{
-    match s {
-        Text::Line(rows) => row_on(rows, 8, Next::Ended(v)),
-        Text::Row(rows, left, _) => row_on(rows, left, Next::Ended(v)),
-        Text::Word(rows, at) => Text::Word(rows, at),
-        Text::Last(rows, left, _) => last_on(rows, left, Next::Ended(v)),
-        Text::End(rows) => Text::End(rows),
-        Text::Stop(e) => Text::Stop(e),
-    }
-}
-
-// Goes on from a byte: by a whole number where one stands, else by that byte.
+// Goes on by a byte.
 fn turn(text: &[u8], s: Text, i: usize) -> Turn
     requires { ⌜ i < length (now text) ⌝ }
     ensures { λ r. ⌜ Moves step tell (now (text .entry)) s i (grouped (listed (r .told))) (r .next) (r .end) ⌝ }
 {
-    let sep = number_end(s);
-    if sep != 0 {
-        let n = at_once::number_at(text, i, sep);
-        if i < n.end {
-            return Turn {
-                next: number_on(s, n.stored),
-                told: Yield::Number(n.stored),
-                end: n.end,
-            };
-        }
-    }
     let b = text[i];
     Turn {
         next: step_on(s, b),

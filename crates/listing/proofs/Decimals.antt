@@ -1,5 +1,5 @@
 -- The digits of a number, one step at a time: the bound on their count is never met. Assumes nothing.
-use mathlib.Core.Path.{_≡_, ap, sym}
+use mathlib.Core.Path.{_≡_, ap, sym, _∙_}
 use mathlib.Core.Bool.{Bool, true, false, cond}
 use mathlib.Core.List.{List, [], _∷_, _++_}
 use Prim.Native.Nat.{ℕ, zero, suc, _+_, _-_, _/_, _%_, _^_, _≤_, _<_, zero-le}
@@ -48,3 +48,8 @@ decimal-within (suc f) n = go (ltb n 10) (decimalIn f (n / 10)) (decimal-within 
 pub decimal-few : (n : ℕ) → length (decimal n) ≤ 20
 unfolding decimal
 decimal-few n = decimal-within 20 n
+
+pub signed-digit : {v : ℕ} → ¬ (v ≡ 0) → v < 11 → signed v ≡ (47 + v) ∷ []
+signed-digit {v} z h =
+    let e : 48 + (v - 1) ≡ 47 + v = omega arith in
+    signed-some z ∙ decimal-small (omega arith) ∙ ap (λ (d : ℕ). d ∷ []) e

@@ -59,6 +59,9 @@ pub fn put_signed(out: &mut [u8], at: usize, v: usize) -> usize
         let to = put(out, at, 45);
         return put(out, to, 49);
     }
+    if v < 11 {
+        return put(out, at, (47 + v) as u8);
+    }
     put_decimal(out, at, v - 1)
 }
 

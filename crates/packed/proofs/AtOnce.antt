@@ -1,25 +1,29 @@
 -- A whole number of a text at once: the digits so far are those of the value so far, and the reader goes over a printed number and the byte
 -- that ends it as `TextRead` says. Assumes nothing.
 use mathlib.Core.Path.{_≡_, refl, ap, sym, _∙_}
-use mathlib.Core.List.{List, [], _∷_, _++_, append-assoc}
+use mathlib.Core.Bool.{Bool, true, false, cond}
+use mathlib.Core.List.{List, [], _∷_, _++_, append-assoc, append-nil}
 use Prim.Native.Nat.{ℕ, _+_, _-_, _*_, _≤_, _<_}
 use native.Mathlib.Numerals.{add-one}
 use native.Mathlib.Omega.{arith}
-use lib.Dec.{lit<, lit≤}
+use borrow.Author.Tests.{eqb-true, ne-eqb}
+use lib.Dec.{eqb, lit<, lit≤}
 use lib.ListN.{length, drop, getD}
 use lib.Seq.{drop-cons}
 use Rattle.packed.specs.declared.Part.the-variants.{Fresh, Minus, Closed, Open}
+use Rattle.packed.specs.declared.Next.the-variants.{Ended}
 use Rattle.packed.specs.declared.Spelt.{Spelt}
 use Rattle.packed.specs.declared.Text.{Text}
 use Rattle.packed.specs.declared.Text.the-variants.{Line, Row, Word, Last, End, Stop}
 use Rattle.packed.specs.Machine.{after, told}
-use Rattle.packed.specs.Moves.{Moves, SpeltAt, numberEnd, numbered}
-use Rattle.listing.specs.Number.{decimal, signed, separator}
+use Rattle.packed.specs.Moves.{Moves, SpeltAt, cell, leftAfter, numberEnd, numbered, rowsAfter}
+use Rattle.listing.specs.Number.{decimal, groups, signed, separator}
 use Rattle.listing.specs.Listing.{grouped}
-use Rattle.packed.specs.Text.{rowOn, lastOn, step, tell, yields}
+use Rattle.packed.specs.Text.{rowEnd, rowOn, lastOn, step, tell, yields}
 use Rattle.listing.proofs.Decimals.{decimal-small, signed-none, signed-some}
+use Rattle.packed.proofs.Cases.{by-test, differ}
 use Rattle.packed.proofs.Runs.{Goes, after-append, told-append}
-use Rattle.packed.proofs.TextRead.{begins-append, number-ends, row-begins, signed-begins, told-groups}
+use Rattle.packed.proofs.TextRead.{begins-append, number-ends, one-more, row-begins, signed-begins, told-groups}
 use Rattle.packed.proofs.TextOnly.{next-digit}
 use Rattle.packed.proofs.TextLarge.{separator-small}
 
@@ -39,7 +43,7 @@ module _ (l : List ℕ) (at : ℕ) where
   run-first d h e m k =
       record { shown = byte-at l at h e ∙ ap (λ (x : List ℕ). x ++ drop (at + 1) l) (sym (decimal-small k)); least = m; fits = omega arith; within = omega arith }
 
-  pub run-more : {n to d : ℕ} → Run l at n to → n < 214748364 → d < 10 → to < length l → getD l to 0 ≡ 48 + d → Run l at (n * 10 + d) (to + 1)
+  pub run-more : {n to d : ℕ} → Run l at n to → n * 10 + d ≤ 2147483647 → d < 10 → to < length l → getD l to 0 ≡ 48 + d → Run l at (n * 10 + d) (to + 1)
   run-more {n} {to} {d} r f k h e =
       let c : 48 + d - 48 ≡ d = omega arith in
       let g : decimal n ++ ((48 + d) ∷ []) ≡ decimal (n * 10 + d) = next-digit n (48 + d) (r .least) (r .fits) (omega arith) (omega arith) ∙ rw c in
@@ -151,3 +155,34 @@ number-moves l s i r z f h =
           ∙ told-append step tell s w rest
           ∙ rw (told-groups s w, g .tells, g .ends) refl;
     }
+
+-- ---- a row's number, where only the row count and how many numbers follow are known
+
+cell-end : (rows left : ℕ) → separator left ≡ numberEnd (cell rows left)
+cell-end rows left = by-test (λ s. separator left ≡ numberEnd s) (eqb left 8) (λ e. rw (eqb-true left 8 e) refl) (λ e. refl)
+
+separator-some : (left : ℕ) → ¬ (separator left ≡ 0)
+separator-some left = by-test (λ s. ¬ (s ≡ 0)) (eqb left 0) (λ _. differ {n = 10} {m = 0} tt) (λ _. differ {n = 32} {m = 0} tt)
+
+cell-numbered : (rows left v : ℕ) → left ≤ 8 → rows < 2147483648 → numbered (cell rows left) v ≡ cell (rowsAfter rows left) (leftAfter left)
+cell-numbered rows left v m h =
+    by-test (λ s. numbered s v ≡ rowOn rows left (Ended v)) (eqb left 8) (λ e. rw (eqb-true left 8 e) refl) (λ e. refl) ∙ go (eqb left 0) refl
+  where
+    go : (t : Bool) → eqb left 0 ≡ t → cond t (rowEnd rows) (Row rows (left - 1) Fresh) ≡ cell (cond t (rows + 1) rows) (cond t 8 (left - 1))
+    go true e = one-more h
+    go false e = simp (ne-eqb (left - 1) 8 (omega arith))
+
+pub cell-moves :
+    (l : List ℕ) (rows left i : ℕ) (r : Spelt)
+    → left ≤ 8
+    → rows < 2147483648
+    → SpeltAt l i (separator left) r
+    → i < r .end
+    → Moves step tell l (cell rows left) i (groups (r .stored)) (cell (rowsAfter rows left) (leftAfter left)) (r .end)
+cell-moves l rows left i r m k f h =
+    let e = cell-end rows left in
+    rw (append-nil (groups (r .stored)), cell-numbered rows left (r .stored) m k) at
+    (number-moves l (cell rows left) i r (λ z. separator-some left (e ∙ z)) (rw e at f) h)
+
+pub left-most : (left : ℕ) → left ≤ 8 → leftAfter left ≤ 8
+left-most left h = by-test (λ n. n ≤ 8) (eqb left 0) (λ _. lit≤ tt) (λ _. omega arith)

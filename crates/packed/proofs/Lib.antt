@@ -14,6 +14,7 @@ pub mod Verdicts
 pub mod TextBegun
 pub mod TextLarge
 pub mod AtOnce
+pub mod Stored
 pub mod Rooms
 pub mod TextRefusals
 pub mod PackedBegun

@@ -25,7 +25,7 @@ use Rattle.packed.proofs.Runs.{Goes, _then_, byte, stay}
 -- ---- one group
 
 -- the last group ends the number
-group-last :
+pub group-last :
     (n k v : ℕ) → v < 128 → k ≤ 5 → (v ≡ 0 → k ≡ 0) → n + v * 128 ^ k ≤ 2147483648 → group n k v ≡ Whole (n + v * 128 ^ k)
 group-last n k v h f z b =
     let m : min k 5 ≡ k = omega arith in

@@ -8,7 +8,7 @@ use native.Mathlib.Omega.{arith}
 use lib.ListN.{length, drop, getD, length-append, drop-of-length-le}
 use lib.Seq.{sets, drop-cons}
 use Rattle.packed.specs.Machine.{after, told}
-use Rattle.packed.specs.Moves.{Moves}
+use Rattle.packed.specs.Moves.{Counted, Moves}
 use Rattle.listing.proofs.Left.{Left, front, onward, finished}
 
 module _ {S : Type 0} (step : S → ℕ → S) (tell : S → ℕ → List ℕ) (bytes : List ℕ) where
@@ -21,14 +21,7 @@ module _ {S : Type 0} (step : S → ℕ → S) (tell : S → ℕ → List ℕ) (
       → told step tell s (drop i bytes) ≡ tell s (getD bytes i 0) ++ told step tell (step s (getD bytes i 0)) (drop (i + 1) bytes)
   told-drop s i h = rw (add-one, drop-cons bytes i 0 h)
 
-  -- from the state s and byte i on, the reading ends as from the start, and what it tells and the size so far come to the same
-  pub record Counted (room : ℕ) (start s : S) (size i : ℕ) : Type 0 where
-    pub within : i ≤ length bytes
-    pub state : after step s (drop i bytes) ≡ after step start bytes
-    pub count : min (size + length (told step tell s (drop i bytes))) (room + 1) ≡ min (length (told step tell start bytes)) (room + 1)
-    pub most : size ≤ room + 1
-
-  pub counted-none : (room : ℕ) (start : S) → Counted room start start 0 0
+  pub counted-none : (room : ℕ) (start : S) → Counted step tell bytes room start start 0 0
   counted-none room start = record { within = zero-le; state = refl; count = omega arith; most = zero-le }
 
   -- one byte
@@ -37,11 +30,11 @@ module _ {S : Type 0} (step : S → ℕ → S) (tell : S → ℕ → List ℕ) (
 
   pub counted-on :
       {room : ℕ} {start s s′ : S} {size size′ i i′ k : ℕ} {e : List ℕ}
-      → Counted room start s size i
+      → Counted step tell bytes room start s size i
       → Moves step tell bytes s i e s′ i′
       → k ≡ length e
       → size′ ≡ min (size + k) (room + 1)
-      → Counted room start s′ size′ i′
+      → Counted step tell bytes room start s′ size′ i′
   counted-on {room} {start} {s} {s′} {size} {size′} {i} {i′} {k} {e} c m p q =
       record {
         within = m .within;
@@ -53,17 +46,17 @@ module _ {S : Type 0} (step : S → ℕ → S) (tell : S → ℕ → List ℕ) (
   pub counted-more :
       {room : ℕ} {start s s′ : S} {size size′ i k : ℕ}
       → i < length bytes
-      → Counted room start s size i
+      → Counted step tell bytes room start s size i
       → k ≡ length (tell s (getD bytes i 0))
       → size′ ≡ min (size + k) (room + 1)
       → s′ ≡ step s (getD bytes i 0)
-      → Counted room start s′ size′ (i + 1)
+      → Counted step tell bytes room start s′ size′ (i + 1)
   counted-more {s = s} {i = i} h c p q r = rw r (counted-on c (one-byte s i h) p q)
 
   pub counted-all :
       {room : ℕ} {start s : S} {size i : ℕ}
       → length bytes ≤ i
-      → Counted room start s size i
+      → Counted step tell bytes room start s size i
       → (s ≡ after step start bytes) × (size ≡ min (length (told step tell start bytes)) (room + 1))
   counted-all {room} {start} {s} {size} {i} h c = (
     rw (drop-of-length-le bytes h) at (c .state),

@@ -1,4 +1,4 @@
-// A whole number of a text at once. What is not read here, as a number of ten digits or a malformed one, is read byte by byte.
+// A whole number of a text at once. What is not read here, as a number that is too large or malformed, is read byte by byte.
 use super::Spelt;
 ghost use mathlib.Core.Path.{_≡_};
 ghost use mathlib.Core.Bool.{true};
@@ -54,10 +54,11 @@ fn digits(listing: &[u8], at: usize, first: usize, sep: u8) -> Spelt
     let mut to = at + 1;
     let mut d = digit_at(listing, to);
     while d < 10 {
-        if 214748364 <= n {
+        let m = n * 10 + d;
+        if 2147483647 < m {
             return Spelt { stored: 0, end: 0 };
         }
-        n = n * 10 + d;
+        n = m;
         to += 1;
         d = digit_at(listing, to);
     }
@@ -66,7 +67,6 @@ fn digits(listing: &[u8], at: usize, first: usize, sep: u8) -> Spelt
 
 // The number at a place that a byte ends.
 pub fn number_at(listing: &[u8], at: usize, sep: u8) -> Spelt
-    requires { ⌜ at < length (now listing) ⌝ }
     ensures { λ r. ⌜ SpeltAt (now (listing .entry)) at sep r ⌝ }
 {
     let first = digit_at(listing, at);

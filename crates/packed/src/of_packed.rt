@@ -1,19 +1,23 @@
 // Reading a packed listing.
 use super::Group;
 use super::Packed;
+use super::PackedFront;
 use super::PackedSeen;
 use super::Place;
 use super::Spoken;
+use super::cells;
 use super::numbers;
 ghost use mathlib.Core.Path.{_≡_};
 ghost use Prim.Native.Nat.{_+_, _-_, _^_, _≤_, _<_, min};
-ghost use lib.ListN.{length};
+ghost use lib.ListN.{length, drop};
 ghost use lib.Seq.{sets};
+ghost use Rattle.listing.proofs.Left.{Left};
 ghost use Rattle.packed.specs.Machine.{after, told};
+ghost use Rattle.packed.specs.Moves.{Counted, spot};
 ghost use Rattle.packed.specs.Packed.{weight, group, rowsOn, reached, grouping, step, say, spoken, tell, verdict, heard};
 
 // What a group counts for: 128 to the number of groups before it, which is 5 from the sixth on.
-fn weight_of(k: u8) -> usize
+pub fn weight_of(k: u8) -> usize
     ensures { λ r. ⌜ (r ≡ weight k) × (r ≤ 34359738368) ⌝ }
 {
     match k {
@@ -26,7 +30,7 @@ fn weight_of(k: u8) -> usize
     }
 }
 
-fn one_more(k: u8) -> u8
+pub fn one_more(k: u8) -> u8
     ensures { λ r. ⌜ r ≡ min (k + 1) 5 ⌝ }
 {
     if k < 5 {
@@ -224,14 +228,80 @@ pub fn verdict_of(s: Packed) -> usize
     }
 }
 
+// Where a row's number is to begin, or behind the rows the kind.
+fn spot_of(more: usize, left: usize) -> Packed
+    ensures { λ r. ⌜ r ≡ spot more left ⌝ }
+{
+    if more == 0 {
+        return Packed::At(Place::Kind, 0, 0);
+    }
+    Packed::At(Place::Cell(more - 1, left), 0, 0)
+}
+
+// The row count and the rows, as far as they stand whole.
+fn front_size(packed: &[u8], room: usize) -> PackedFront
+    requires { ⌜ room < 2 ^ 63 ⌝ }
+    ensures { λ r. ⌜ Counted step tell (now (packed .entry)) room (Packed.At Place.Count 0 0) (r .next) (r .told) (r .end) ⌝ }
+{
+    let n = cells::number_at(packed, 0);
+    if n.end == 0 {
+        return PackedFront {
+            next: Packed::At(Place::Count, 0, 0),
+            told: 0,
+            end: 0,
+        };
+    }
+    if n.stored == 0 {
+        return PackedFront {
+            next: Packed::At(Place::Count, 0, 0),
+            told: 0,
+            end: 0,
+        };
+    }
+    let front = cells::measure(packed, n.stored - 1, n.end, room);
+    PackedFront {
+        next: spot_of(front.rows, front.left),
+        told: front.told,
+        end: front.end,
+    }
+}
+
+fn put_front(packed: &[u8], out: &mut [u8]) -> PackedFront
+    requires { ⌜ length (told step tell (Packed.At Place.Count 0 0) (now packed)) ≤ length (now out) ⌝ }
+    ensures { λ r. ⌜ Left (now (out .exit)) (r .told) (told step tell (r .next) (drop (r .end) (now (packed .entry)))) (sets (now (out .entry)) 0 (told step tell (Packed.At Place.Count 0 0) (now (packed .entry)))) (0 + length (told step tell (Packed.At Place.Count 0 0) (now (packed .entry)))) (length (now (out .entry))) × (r .end ≤ length (now (packed .entry))) ⌝ }
+{
+    let n = cells::number_at(packed, 0);
+    if n.end == 0 {
+        return PackedFront {
+            next: Packed::At(Place::Count, 0, 0),
+            told: 0,
+            end: 0,
+        };
+    }
+    if n.stored == 0 {
+        return PackedFront {
+            next: Packed::At(Place::Count, 0, 0),
+            told: 0,
+            end: 0,
+        };
+    }
+    let front = cells::write(packed, out, n.stored - 1, n.end);
+    PackedFront {
+        next: spot_of(front.rows, front.left),
+        told: front.told,
+        end: front.end,
+    }
+}
+
 // Where the reading of a packed listing ends, and how many bytes of text it tells.
 pub fn measure(packed: &[u8], room: usize) -> PackedSeen
     requires { ⌜ room < 2 ^ 63 ⌝ }
     ensures { λ r. ⌜ (r .end ≡ after step (Packed.At Place.Count 0 0) (now (packed .entry))) × (r .size ≡ min (length (told step tell (Packed.At Place.Count 0 0) (now (packed .entry)))) (room + 1)) ⌝ }
 {
-    let mut s = Packed::At(Place::Count, 0, 0);
-    let mut size = 0;
-    let mut i = 0;
+    let front = front_size(packed, room);
+    let mut s = front.next;
+    let mut size = front.told;
+    let mut i = front.end;
     while i < packed.len() {
         let b = packed[i];
         size = numbers::capped(size, tell_size(s, b), room);
@@ -246,9 +316,10 @@ pub fn write(packed: &[u8], out: &mut [u8])
     requires { ⌜ length (told step tell (Packed.At Place.Count 0 0) (now packed)) ≤ length (now out) ⌝ }
     ensures { λ _. ⌜ now (out .exit) ≡ sets (now (out .entry)) 0 (told step tell (Packed.At Place.Count 0 0) (now (packed .entry))) ⌝ }
 {
-    let mut s = Packed::At(Place::Count, 0, 0);
-    let mut to = 0;
-    let mut i = 0;
+    let front = put_front(packed, out);
+    let mut s = front.next;
+    let mut to = front.told;
+    let mut i = front.end;
     while i < packed.len() {
         let b = packed[i];
         to = put_told(out, to, s, b);

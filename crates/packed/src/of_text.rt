@@ -5,19 +5,16 @@ use super::Text;
 use super::TextSeen;
 use super::Turn;
 use super::Yield;
-use super::at_once;
 use super::numbers;
+use super::rows;
 ghost use mathlib.Core.Path.{_≡_};
 ghost use Prim.Native.Nat.{_+_, _^_, _≤_, _<_, min};
 ghost use lib.ListN.{length};
 ghost use lib.Seq.{sets};
 ghost use Rattle.listing.specs.Listing.{grouped};
-ghost use Rattle.packed.specs.Moves.{Moves, freshEnd, numberEnd, numbered};
+ghost use Rattle.packed.specs.Moves.{Moves, cell};
 ghost use Rattle.packed.specs.Machine.{after, told};
 ghost use Rattle.packed.specs.Text.{next, rowEnd, lettered, rowOn, lastOn, step, yields, tell, verdict, count, listed, ended};
-
-// The count of no rows, stored plus one.
-const NO_ROWS: usize = 1;
 
 fn fresh_next(sep: u8, b: u8) -> Next
     ensures { λ r. ⌜ r ≡ next Part.Fresh sep b ⌝ }
@@ -217,61 +214,11 @@ fn put_yield(out: &mut [u8], at: usize, y: Yield) -> usize
     }
 }
 
-fn fresh_end(p: Part, left: usize) -> u8
-    ensures { λ r. ⌜ r ≡ freshEnd p left ⌝ }
-{
-    match p {
-        Part::Fresh => listing::separator_of(left),
-        Part::Minus => 0,
-        Part::Closed(_) => 0,
-        Part::Open(_) => 0,
-    }
-}
-
-// The byte that ends a number which is to begin here; 0 where none is.
-fn number_end(s: Text) -> u8
-    ensures { λ r. ⌜ r ≡ numberEnd s ⌝ }
-{
-    match s {
-        Text::Line(_) => 32,
-        Text::Row(_, left, p) => fresh_end(p, left),
-        Text::Word(_, _) => 0,
-        Text::Last(_, left, p) => fresh_end(p, left),
-        Text::End(_) => 0,
-        Text::Stop(_) => 0,
-    }
-}
-
-// After a whole number.
-fn number_on(s: Text, v: usize) -> Text
-    ensures { λ r. ⌜ r ≡ numbered s v ⌝ }
-{
-    match s {
-        Text::Line(rows) => row_on(rows, 8, Next::Ended(v)),
-        Text::Row(rows, left, _) => row_on(rows, left, Next::Ended(v)),
-        Text::Word(rows, at) => Text::Word(rows, at),
-        Text::Last(rows, left, _) => last_on(rows, left, Next::Ended(v)),
-        Text::End(rows) => Text::End(rows),
-        Text::Stop(e) => Text::Stop(e),
-    }
-}
-
-// Goes on from a byte: by a whole number where one stands, else by that byte.
+// Goes on by a byte.
 fn turn(text: &[u8], s: Text, i: usize) -> Turn
     requires { ⌜ i < length (now text) ⌝ }
     ensures { λ r. ⌜ Moves step tell (now (text .entry)) s i (grouped (listed (r .told))) (r .next) (r .end) ⌝ }
 {
-    let sep = number_end(s);
-    if sep != 0 {
-        let n = at_once::number_at(text, i, sep);
-        if i < n.end {
-            return Turn {
-                next: number_on(s, n.stored),
-                told: Yield::Number(n.stored),
-                end: n.end,
-            };
-        }
-    }
     let b = text[i];
     Turn {
         next: step_on(s, b),
@@ -306,14 +253,25 @@ pub fn count_of(s: Text) -> usize
     }
 }
 
+// Where a row's number is to begin.
+fn cell_of(rows: usize, left: usize) -> Text
+    ensures { λ r. ⌜ r ≡ cell rows left ⌝ }
+{
+    if left == 8 {
+        return Text::Line(rows);
+    }
+    Text::Row(rows, left, Part::Fresh)
+}
+
 // Where the reading of a text ends, and how many bytes it tells.
 pub fn measure(listing: &[u8], room: usize) -> TextSeen
     requires { ⌜ room < 2 ^ 63 ⌝ }
     ensures { λ r. ⌜ (r .end ≡ after step (Text.Line 1) (now (listing .entry))) × (r .size ≡ min (length (told step tell (Text.Line 1) (now (listing .entry)))) (room + 1)) ⌝ }
 {
-    let mut s = Text::Line(NO_ROWS);
-    let mut size = 0;
-    let mut i = 0;
+    let front = rows::measure(listing, room);
+    let mut s = cell_of(front.rows, front.left);
+    let mut size = front.told;
+    let mut i = front.end;
     while i < listing.len() {
         let t = turn(listing, s, i);
         let told = t.told;
@@ -329,9 +287,10 @@ pub fn write(listing: &[u8], out: &mut [u8], at: usize)
     requires { ⌜ at + length (told step tell (Text.Line 1) (now listing)) ≤ length (now out) ⌝ }
     ensures { λ _. ⌜ now (out .exit) ≡ sets (now (out .entry)) at (told step tell (Text.Line 1) (now (listing .entry))) ⌝ }
 {
-    let mut s = Text::Line(NO_ROWS);
-    let mut to = at;
-    let mut i = 0;
+    let front = rows::write(listing, out, at);
+    let mut s = cell_of(front.rows, front.left);
+    let mut to = front.told;
+    let mut i = front.end;
     while i < listing.len() {
         let t = turn(listing, s, i);
         let told = t.told;

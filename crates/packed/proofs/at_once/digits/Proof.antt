@@ -25,9 +25,9 @@ digits-spec =
     (λ c.
     let s = c .before .before in
     (run-first (s .args .listing .now) (s .args .at) (s .args .first) (s .pre .0) (s .pre .1) (s .pre .2) (s .pre .3), c .digit-at .ensures))  -- loop-holds
+    (λ c. omega (arith, c .before .loop .inv .0 .fits))  -- mul-m
+    (λ c. omega (arith, c .before .loop .inv .0 .fits, c .loop-test .taken))  -- add-m
     (λ c. spelt-none _ _ _ 0)  -- returns
-    (λ c. omega (arith, c .if1 .left))  -- mul-n
-    (λ c. omega (arith, c .if1 .left, c .before .loop-test .taken))  -- add-n
     (λ c. omega (arith, c .before .before .loop .inv .1 (c .before .loop-test .taken) .0, c .before .before .before .before .before .fits))  -- add-to-2
     (λ c κs. search needs)  -- digit-at-requires-2
     (λ c. omega (arith, c .before .before .before .loop .inv .1 (c .before .before .loop-test .taken) .0))  -- loop-less

@@ -10,7 +10,7 @@ number-at-spec =
     tie.close
     (tie.spec
     (λ c κs. search needs)  -- digit-at-requires
-    (λ c. search needs)  -- add-ended
+    (λ c. omega (arith, c .before .digit-at .ensures (omega (arith, c .if1 .taken)) .0, c .before .before .before .fits))  -- add-ended
     (λ c κs. search needs)  -- ended-requires
     (λ c.
     let s = c .before .before .before .before in
@@ -22,9 +22,9 @@ number-at-spec =
     (x .0, x .1, omega (arith, c .before .if1 .left), c .if2 .taken))  -- digits-requires
     (λ c. search needs)  -- returns-2
     (λ c κs. search needs)  -- is-at-requires
-    (λ c. search needs)  -- add-is-at
+    (λ c. omega (arith, c .before .is-at .ensures (c .if3 .taken) .0, c .before .before .before .before .before .before .fits))  -- add-is-at
     (λ c κs. search needs)  -- is-at-requires-2
-    (λ c. search needs)  -- add-ended-2
+    (λ c. omega (arith, c .before .is-at2 .ensures (c .if4 .taken) .0, c .before .before .before .before .before .before .before .before .fits))  -- add-ended-2
     (λ c κs. search needs)  -- ended-requires-2
     (λ c.
     let s = c .before .before .before .before .before .before .before .before .before in

@@ -1,0 +1,137 @@
+// The rows of a packed listing, number by number, while each stands whole. Only plain numbers go from one turn to the next; what is before and
+// after is read by `of_packed`.
+use super::Front;
+use super::Spelt;
+use super::numbers;
+use super::of_packed;
+use super::rows;
+ghost use mathlib.Core.Path.{_≡_};
+ghost use Prim.Native.Nat.{_+_, _^_, _≤_, _<_};
+ghost use lib.ListN.{length, drop};
+ghost use lib.Seq.{sets};
+ghost use Rattle.listing.proofs.Left.{Left};
+ghost use Rattle.packed.specs.declared.Packed.the-variants.{At};
+ghost use Rattle.packed.specs.declared.Place.the-variants.{Count};
+ghost use Rattle.packed.specs.Machine.{told};
+ghost use Rattle.packed.specs.Moves.{Counted, StoredAt, spot, rowsLeft};
+ghost use Rattle.packed.specs.Packed.{step, tell};
+
+// A number of several groups.
+fn several(packed: &[u8], at: usize) -> Spelt
+    ensures { λ r. ⌜ StoredAt (now (packed .entry)) at r ⌝ }
+{
+    let mut n = 0;
+    let mut k = 0;
+    let mut i = at;
+    while i < packed.len() {
+        let b = packed[i];
+        let m = n + (b % 128) as usize * of_packed::weight_of(k);
+        if 2147483648 < m {
+            return Spelt { stored: 0, end: 0 };
+        }
+        if b == 0 {
+            return Spelt { stored: 0, end: 0 };
+        }
+        if b < 128 {
+            return Spelt {
+                stored: m,
+                end: i + 1,
+            };
+        }
+        n = m;
+        k = of_packed::one_more(k);
+        i += 1;
+    }
+    Spelt { stored: 0, end: 0 }
+}
+
+// The number at a place: most are of one group.
+pub fn number_at(packed: &[u8], at: usize) -> Spelt
+    ensures { λ r. ⌜ StoredAt (now (packed .entry)) at r ⌝ }
+{
+    if packed.len() <= at {
+        return Spelt { stored: 0, end: 0 };
+    }
+    let b = packed[at];
+    if b < 128 {
+        return Spelt {
+            stored: b as usize,
+            end: at + 1,
+        };
+    }
+    several(packed, at)
+}
+
+fn rows_left(more: usize, left: usize) -> usize
+    requires { ⌜ 0 < more ⌝ }
+    ensures { λ r. ⌜ r ≡ rowsLeft more left ⌝ }
+{
+    if left == 0 {
+        return more - 1;
+    }
+    more
+}
+
+// How far the rows go, and how many bytes they tell, where so many rows begin at a place.
+pub fn measure(packed: &[u8], count: usize, at: usize, room: usize) -> Front
+    requires { ⌜ (room < 2 ^ 63) × Counted step tell (now packed) room (At Count 0 0) (spot count 8) 0 at ⌝ }
+    ensures { λ r. ⌜ Counted step tell (now (packed .entry)) room (At Count 0 0) (spot (r .rows) (r .left)) (r .told) (r .end) ⌝ }
+{
+    let mut more = count;
+    let mut left = 8;
+    let mut size = 0;
+    let mut i = at;
+    while 0 < more {
+        let n = number_at(packed, i);
+        if n.end <= i {
+            return Front {
+                rows: more,
+                left,
+                told: size,
+                end: i,
+            };
+        }
+        size = numbers::capped(size, listing::ended_size(n.stored), room);
+        more = rows_left(more, left);
+        left = rows::left_after(left);
+        i = n.end;
+    }
+    Front {
+        rows: more,
+        left,
+        told: size,
+        end: i,
+    }
+}
+
+// What the rows tell, from the front on.
+pub fn write(packed: &[u8], out: &mut [u8], count: usize, at: usize) -> Front
+    requires { ⌜ (length (told step tell (spot count 8) (drop at (now packed))) ≤ length (now out)) × (at ≤ length (now packed)) ⌝ }
+    ensures { λ r. ⌜ Left (now (out .exit)) (r .told) (told step tell (spot (r .rows) (r .left)) (drop (r .end) (now (packed .entry)))) (sets (now (out .entry)) 0 (told step tell (spot count 8) (drop at (now (packed .entry))))) (0 + length (told step tell (spot count 8) (drop at (now (packed .entry))))) (length (now (out .entry))) × (r .end ≤ length (now (packed .entry))) ⌝ }
+{
+    let mut more = count;
+    let mut left = 8;
+    let mut to = 0;
+    let mut i = at;
+    while 0 < more {
+        let n = number_at(packed, i);
+        if n.end <= i {
+            return Front {
+                rows: more,
+                left,
+                told: to,
+                end: i,
+            };
+        }
+        to = listing::put_ended(out, to, n.stored, left);
+        more = rows_left(more, left);
+        left = rows::left_after(left);
+        i = n.end;
+    }
+    Front {
+        rows: more,
+        left,
+        told: to,
+        end: i,
+    }
+}

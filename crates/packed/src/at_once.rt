@@ -66,7 +66,7 @@ fn digits(listing: &[u8], at: usize, first: usize, sep: u8) -> Spelt
 }
 
 // The number at a place that a byte ends.
-pub fn number_at(listing: &[u8], at: usize, sep: u8) -> Spelt
+pub(crate) fn number_at(listing: &[u8], at: usize, sep: u8) -> Spelt
     ensures { λ r. ⌜ SpeltAt (now (listing .entry)) at sep r ⌝ }
 {
     let first = digit_at(listing, at);

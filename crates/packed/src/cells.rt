@@ -46,7 +46,7 @@ fn several(packed: &[u8], at: usize) -> Spelt
 }
 
 // The number at a place: most are of one group.
-pub fn number_at(packed: &[u8], at: usize) -> Spelt
+pub(crate) fn number_at(packed: &[u8], at: usize) -> Spelt
     ensures { λ r. ⌜ StoredAt (now (packed .entry)) at r ⌝ }
 {
     if packed.len() <= at {
@@ -73,7 +73,7 @@ fn rows_left(more: usize, left: usize) -> usize
 }
 
 // How far the rows go, and how many bytes they tell, where so many rows begin at a place.
-pub fn measure(packed: &[u8], count: usize, at: usize, room: usize) -> Front
+pub(crate) fn measure(packed: &[u8], count: usize, at: usize, room: usize) -> Front
     requires { ⌜ (room < 2 ^ 63) × Counted step tell (now packed) room (At Count 0 0) (spot count 8) 0 at ⌝ }
     ensures { λ r. ⌜ Counted step tell (now (packed .entry)) room (At Count 0 0) (spot (r .rows) (r .left)) (r .told) (r .end) ⌝ }
 {
@@ -105,7 +105,7 @@ pub fn measure(packed: &[u8], count: usize, at: usize, room: usize) -> Front
 }
 
 // What the rows tell, from the front on.
-pub fn write(packed: &[u8], out: &mut [u8], count: usize, at: usize) -> Front
+pub(crate) fn write(packed: &[u8], out: &mut [u8], count: usize, at: usize) -> Front
     requires { ⌜ (length (told step tell (spot count 8) (drop at (now packed))) ≤ length (now out)) × (at ≤ length (now packed)) ⌝ }
     ensures { λ r. ⌜ Left (now (out .exit)) (r .told) (told step tell (spot (r .rows) (r .left)) (drop (r .end) (now (packed .entry)))) (sets (now (out .entry)) 0 (told step tell (spot count 8) (drop at (now (packed .entry))))) (0 + length (told step tell (spot count 8) (drop at (now (packed .entry))))) (length (now (out .entry))) × (r .end ≤ length (now (packed .entry))) ⌝ }
 {

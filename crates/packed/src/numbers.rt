@@ -6,7 +6,7 @@ ghost use lib.Seq.{sets};
 ghost use Rattle.listing.specs.Number.{groups};
 
 // A sum that stops one past the room: a listing's text can be longer than any run of bytes.
-pub fn capped(n: usize, more: usize, room: usize) -> usize
+pub(crate) fn capped(n: usize, more: usize, room: usize) -> usize
     requires { ⌜ room < 2 ^ 63 ⌝ }
     ensures { λ r. ⌜ r ≡ min (n + more) (room + 1) ⌝ }
 {
@@ -20,7 +20,7 @@ pub fn capped(n: usize, more: usize, room: usize) -> usize
 }
 
 // How many groups a number takes.
-pub fn groups_size(v: usize) -> usize
+pub(crate) fn groups_size(v: usize) -> usize
     ensures { λ r. ⌜ r ≡ length (groups v) ⌝ }
 {
     let mut rest = v;
@@ -33,7 +33,7 @@ pub fn groups_size(v: usize) -> usize
 }
 
 // A number's groups from a place on; the place after them.
-pub fn put_groups(out: &mut [u8], at: usize, v: usize) -> usize
+pub(crate) fn put_groups(out: &mut [u8], at: usize, v: usize) -> usize
     requires { ⌜ at + length (groups v) ≤ length (now out) ⌝ }
     ensures { λ r. ⌜ (r ≡ at + length (groups v)) × (now (out .exit) ≡ sets (now (out .entry)) at (groups v)) ⌝ }
 {

@@ -17,7 +17,7 @@ ghost use Rattle.packed.specs.Moves.{Counted, spot};
 ghost use Rattle.packed.specs.Packed.{weight, group, rowsOn, reached, grouping, step, say, spoken, tell, verdict, heard};
 
 // What a group counts for: 128 to the number of groups before it, which is 5 from the sixth on.
-pub fn weight_of(k: u8) -> usize
+pub(crate) fn weight_of(k: u8) -> usize
     ensures { λ r. ⌜ (r ≡ weight k) × (r ≤ 34359738368) ⌝ }
 {
     match k {
@@ -30,7 +30,7 @@ pub fn weight_of(k: u8) -> usize
     }
 }
 
-pub fn one_more(k: u8) -> u8
+pub(crate) fn one_more(k: u8) -> u8
     ensures { λ r. ⌜ r ≡ min (k + 1) 5 ⌝ }
 {
     if k < 5 {
@@ -218,7 +218,7 @@ fn put_told(out: &mut [u8], at: usize, s: Packed, b: u8) -> usize
     }
 }
 
-pub fn verdict_of(s: Packed) -> usize
+pub(crate) fn verdict_of(s: Packed) -> usize
     ensures { λ r. ⌜ r ≡ verdict s ⌝ }
 {
     match s {
@@ -294,7 +294,7 @@ fn put_front(packed: &[u8], out: &mut [u8]) -> PackedFront
 }
 
 // Where the reading of a packed listing ends, and how many bytes of text it tells.
-pub fn measure(packed: &[u8], room: usize) -> PackedSeen
+pub(crate) fn measure(packed: &[u8], room: usize) -> PackedSeen
     requires { ⌜ room < 2 ^ 63 ⌝ }
     ensures { λ r. ⌜ (r .end ≡ after step (Packed.At Place.Count 0 0) (now (packed .entry))) × (r .size ≡ min (length (told step tell (Packed.At Place.Count 0 0) (now (packed .entry)))) (room + 1)) ⌝ }
 {
@@ -312,7 +312,7 @@ pub fn measure(packed: &[u8], room: usize) -> PackedSeen
 }
 
 // What a packed listing tells, from the front on.
-pub fn write(packed: &[u8], out: &mut [u8])
+pub(crate) fn write(packed: &[u8], out: &mut [u8])
     requires { ⌜ length (told step tell (Packed.At Place.Count 0 0) (now packed)) ≤ length (now out) ⌝ }
     ensures { λ _. ⌜ now (out .exit) ≡ sets (now (out .entry)) 0 (told step tell (Packed.At Place.Count 0 0) (now (packed .entry))) ⌝ }
 {

@@ -227,7 +227,7 @@ fn turn(text: &[u8], s: Text, i: usize) -> Turn
     }
 }
 
-pub fn verdict_of(s: Text) -> usize
+pub(crate) fn verdict_of(s: Text) -> usize
     ensures { λ r. ⌜ r ≡ verdict s ⌝ }
 {
     match s {
@@ -240,7 +240,7 @@ pub fn verdict_of(s: Text) -> usize
     }
 }
 
-pub fn count_of(s: Text) -> usize
+pub(crate) fn count_of(s: Text) -> usize
     ensures { λ r. ⌜ r ≡ count s ⌝ }
 {
     match s {
@@ -264,7 +264,7 @@ fn cell_of(rows: usize, left: usize) -> Text
 }
 
 // Where the reading of a text ends, and how many bytes it tells.
-pub fn measure(listing: &[u8], room: usize) -> TextSeen
+pub(crate) fn measure(listing: &[u8], room: usize) -> TextSeen
     requires { ⌜ room < 2 ^ 63 ⌝ }
     ensures { λ r. ⌜ (r .end ≡ after step (Text.Line 1) (now (listing .entry))) × (r .size ≡ min (length (told step tell (Text.Line 1) (now (listing .entry)))) (room + 1)) ⌝ }
 {
@@ -283,7 +283,7 @@ pub fn measure(listing: &[u8], room: usize) -> TextSeen
 }
 
 // What a text tells, from a place on.
-pub fn write(listing: &[u8], out: &mut [u8], at: usize)
+pub(crate) fn write(listing: &[u8], out: &mut [u8], at: usize)
     requires { ⌜ at + length (told step tell (Text.Line 1) (now listing)) ≤ length (now out) ⌝ }
     ensures { λ _. ⌜ now (out .exit) ≡ sets (now (out .entry)) at (told step tell (Text.Line 1) (now (listing .entry))) ⌝ }
 {

@@ -27,7 +27,7 @@ fn rows_after(rows: usize, left: usize) -> usize
 }
 
 // How many numbers follow the next one on its row.
-pub fn left_after(left: usize) -> usize
+pub(crate) fn left_after(left: usize) -> usize
     ensures { λ r. ⌜ r ≡ leftAfter left ⌝ }
 {
     if left == 0 {
@@ -37,7 +37,7 @@ pub fn left_after(left: usize) -> usize
 }
 
 // How far the rows go, and how many bytes they tell.
-pub fn measure(text: &[u8], room: usize) -> Front
+pub(crate) fn measure(text: &[u8], room: usize) -> Front
     requires { ⌜ room < 2 ^ 63 ⌝ }
     ensures { λ r. ⌜ Counted step tell (now (text .entry)) room (Line 1) (cell (r .rows) (r .left)) (r .told) (r .end) ⌝ }
 {
@@ -69,7 +69,7 @@ pub fn measure(text: &[u8], room: usize) -> Front
 }
 
 // What the rows tell, from a place on.
-pub fn write(text: &[u8], out: &mut [u8], at: usize) -> Front
+pub(crate) fn write(text: &[u8], out: &mut [u8], at: usize) -> Front
     requires { ⌜ at + length (told step tell (Line 1) (now text)) ≤ length (now out) ⌝ }
     ensures { λ r. ⌜ Left (now (out .exit)) (r .told) (told step tell (cell (r .rows) (r .left)) (drop (r .end) (now (text .entry)))) (sets (now (out .entry)) at (told step tell (Line 1) (now (text .entry)))) (at + length (told step tell (Line 1) (now (text .entry)))) (length (now (out .entry))) × (r .end ≤ length (now (text .entry))) ⌝ }
 {

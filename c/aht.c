@@ -1,7 +1,7 @@
 /* aht FILE AT HEBAPS..: for whoever reads E-AC-3 and has come to AHT sections: walks over those that stand one after the other from bit AT
-   of a file on, and prints where each ends and how many tags it has. A section is given by the hebaps of its bins, from bin 0 on, as 8,0,12.
-   The exit status is 0 if all were walked over, 1 if one was refused, 2 if the program was called wrongly, could not read or could not
-   print. */
+   of a file on, and prints where each ends and how many tags it has. A section is given by the hebaps of its bins, from bin 0 on, as
+   8,0,12. The exit status is 0 if all were walked over, 1 if one was refused, 2 if the program was called wrongly, could not read or could
+   not print. */
 #include "files.h"
 
 #include "ferrysprig.h"

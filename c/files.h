@@ -21,7 +21,7 @@ static inline uint8_t *mapped(int file, size_t *length) {
     if (fstat(file, &status) != 0)
         return NULL;
     if (!S_ISREG(status.st_mode)) {
-        errno = S_ISDIR(status.st_mode) ? EISDIR : ENODEV;
+        errno = S_ISDIR(status.st_mode) ? EISDIR : ENOTSUP; /* a pipe has no length to map */
         return NULL;
     }
     *length = (size_t)status.st_size;

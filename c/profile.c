@@ -26,8 +26,8 @@ static void print(size_t place, const int32_t *answer, const int32_t *rows) {
     if (rule == 0)
         printf("frame at byte %zu: %s\n", place, rules[rule]);
     else
-        printf("frame at byte %zu: rule %" PRId32 " is broken by row %" PRId32 ": %s (%s %" PRId32 " at bit %" PRId32 ")\n", place, rule, row,
-               rules[rule], names[field[FERRYSPRIG_ROW_NAME]], field[FERRYSPRIG_ROW_VALUE], field[FERRYSPRIG_ROW_POSITION]);
+        printf("frame at byte %zu: rule %" PRId32 " is broken by row %" PRId32 ": %s (%s %" PRId32 " at bit %" PRId32 ")\n", place, rule,
+               row, rules[rule], names[field[FERRYSPRIG_ROW_NAME]], field[FERRYSPRIG_ROW_VALUE], field[FERRYSPRIG_ROW_POSITION]);
 }
 
 int main(int argc, char **argv) {
@@ -52,7 +52,8 @@ int main(int argc, char **argv) {
         int32_t refusal = answer[FERRYSPRIG_PROFILE_ANSWER_REFUSAL];
         if (refusal != 0) {
             char where[200];
-            snprintf(where, sizeof where, "no frame at byte %zu of %zu: refusal %" PRId32 ": %s", place, length, refusal, meanings[refusal]);
+            snprintf(where, sizeof where, "no frame at byte %zu of %zu: refusal %" PRId32 ": %s", place, length, refusal,
+                     meanings[refusal]);
             return said(argv[1], where, NOT_WITHIN);
         }
         print(place, answer, rows);

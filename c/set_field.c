@@ -1,7 +1,7 @@
-/* set_field IN OUT NAME VALUE: writes a value into every field of a name in an .ac3 file, mends the checksums, and writes the whole to a new
-   file. The name is one of those whose values never steer the rest of a frame (docs/NAMES.md), so nothing else moves. The exit status is 0
-   if every byte of the file belonged to a frame, and a field was written; 1 if not, and then no file is made; 2 if the program was called
-   wrongly, could not read or could not write. */
+/* set_field IN OUT NAME VALUE: writes a value into every field of a name in an .ac3 file, mends the checksums, writes the whole to a new
+   file and prints how many fields were set. The name is one of those whose values never steer the rest of a frame (docs/NAMES.md), so
+   nothing else moves. The exit status is 0 if every byte of the file belonged to a frame, and a field was written; 1 if not, and then no
+   file is made; 2 if the program was called wrongly, could not read or could not write. */
 #include "files.h"
 
 #include "ferrysprig.h"
@@ -18,7 +18,6 @@ static int32_t rows[FERRYSPRIG_MOST_ROWS * FERRYSPRIG_ROW_NUMBERS];
 static const size_t room = sizeof rows / sizeof *rows;
 
 static int said(const char *what, const char *why, int status) {
-    fflush(stdout); /* what was written before is said first */
     fprintf(stderr, "set_field: %s: %s\n", what, why);
     return status;
 }
@@ -69,7 +68,7 @@ static int32_t set(uint8_t *capture, size_t length, size_t place, size_t name, s
 }
 
 int main(int argc, char **argv) {
-    size_t value, length, fields, bytes, all = 0;
+    size_t value, length, fields, bytes, frames = 0, all = 0;
 
     if (argc != 5 || !number(argv[4], &value)) {
         fprintf(stderr, "usage: set_field IN OUT NAME VALUE\n");
@@ -82,14 +81,13 @@ int main(int argc, char **argv) {
     if (!capture)
         return said(argv[1], strerror(errno), TROUBLE);
 
-    for (size_t place = 0; place < length; place += bytes) {
+    for (size_t place = 0; place < length; place += bytes, frames++) {
         int32_t refusal = set(capture, length, place, name, value, &fields, &bytes);
         if (refusal != 0) {
             char where[200];
             snprintf(where, sizeof where, "at byte %zu of %zu: refusal %" PRId32 ": %s", place, length, refusal, meanings[refusal]);
             return said(argv[1], where, REFUSED);
         }
-        printf("frame at byte %zu: fields set %zu\n", place, fields);
         all += fields;
     }
     if (all == 0)
@@ -98,7 +96,8 @@ int main(int argc, char **argv) {
     FILE *out = make_new(argv[2]);
     if (!out || fwrite(capture, 1, length, out) != length || fclose(out) != 0)
         return said(argv[2], strerror(errno), TROUBLE);
-    if (fflush(stdout) != 0 || ferror(stdout))
+    printf("frames: %zu; fields set: %zu\n", frames, all);
+    if (fflush(stdout) != 0)
         return said("standard output", strerror(errno), TROUBLE);
     return DONE;
 }

@@ -1,7 +1,7 @@
 /* what_changed OLD NEW: holds an edited .ac3 file against the one that it was made of, frame by frame, and prints which fields have other
    values and which spans, as the mantissas and what comes after the audio, have other bits. The exit status is 0 if all is the same, 1 if
-   something changed, 2 if the program was called wrongly, could not read or could not print, if the files are not of one length or have bytes
-   that are no frame. */
+   something changed, 2 if the program was called wrongly, could not read or could not print, if the files are not of one length or have
+   bytes that are no frame. */
 #include "files.h"
 
 #include "ferrysprig.h"
@@ -33,7 +33,8 @@ static bool parsed(struct side *side, size_t place) {
     int32_t refusal = side->answer[FERRYSPRIG_ANSWER_REFUSAL];
     if (refusal != 0) {
         char where[200];
-        snprintf(where, sizeof where, "no frame at byte %zu of %zu: refusal %" PRId32 ": %s", place, side->length, refusal, meanings[refusal]);
+        snprintf(where, sizeof where, "no frame at byte %zu of %zu: refusal %" PRId32 ": %s", place, side->length, refusal,
+                 meanings[refusal]);
         trouble(side->name, where);
     }
     return refusal == 0;

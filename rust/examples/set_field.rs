@@ -1,7 +1,7 @@
-//! set_field IN OUT NAME VALUE: writes a value into every field of a name in an .ac3 file, mends the checksums, and writes the whole to a new
-//! file. The name is one of those whose values never steer the rest of a frame (docs/NAMES.md), so nothing else moves. The exit status is 0
-//! if every byte of the file belonged to a frame, and a field was written; 1 if not, and then no file is made; 2 if it was called wrongly,
-//! could not read, could not write or could not print.
+//! set_field IN OUT NAME VALUE: writes a value into every field of a name in an .ac3 file, mends the checksums, writes the whole to a new
+//! file and prints how many fields were set. The name is one of those whose values never steer the rest of a frame (docs/NAMES.md), so
+//! nothing else moves. The exit status is 0 if every byte of the file belonged to a frame, and a field was written; 1 if not, and then no
+//! file is made; 2 if it was called wrongly, could not read, could not write or could not print.
 
 use ferrysprig::level::correct_level;
 use ferrysprig::{edit, parse_at, Field, Role};
@@ -45,15 +45,15 @@ fn set_field(from: &OsStr, to: &OsStr, name: &OsStr, value: u32) -> Result<(), T
         return Err((TROUBLE, name.to_owned(), message.into()));
     };
     let mut stream = std::fs::read(from).map_err(|why| trouble(from, why))?;
-    let (mut place, mut all, mut text) = (0, 0, String::new());
+    let (mut place, mut frames, mut all) = (0, 0, 0);
     while place < stream.len() {
         let length = stream.len();
         let (fields, bytes) = set(&mut stream, place, name, value).map_err(|(number, why)| {
             let message = format!("at byte {place} of {length}: refusal {number}: {why}");
             (REFUSED, from.to_owned(), message)
         })?;
-        text += &format!("frame at byte {place}: fields set {fields}\n");
         all += fields;
+        frames += 1;
         place += bytes;
     }
     if all == 0 {
@@ -69,7 +69,7 @@ fn set_field(from: &OsStr, to: &OsStr, name: &OsStr, value: u32) -> Result<(), T
     made.write_all(&stream).map_err(|why| trouble(to, why))?;
     // Not `print`, which panics where nobody reads on.
     io::stdout()
-        .write_all(text.as_bytes())
+        .write_all(format!("frames: {frames}; fields set: {all}\n").as_bytes())
         .and_then(|()| io::stdout().flush())
         .map_err(|why| trouble(OsStr::new("standard output"), why))
 }

@@ -70,7 +70,7 @@ fn what_is_lent_can_be_shared() {
 #[test]
 fn a_stopped_walk_is_its_refusal() {
     fn walk(list: &mut [usize]) -> Result<usize, Box<dyn Error + Send + Sync>> {
-        let walked = salvage::salvage_into(&[0; 300], &mut [], list, &mut []);
+        let walked = salvage::salvage_into(&[0; 300], &mut [0; 9], list, &mut []);
         let left = walked.map_err(salvage::Refusal::from)?;
         Ok(left.end())
     }

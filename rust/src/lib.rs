@@ -151,8 +151,8 @@
 //!
 //! # Building
 //!
-//! The crate links libferrysprig.a, for x86-64 Linux, from target/staticlib of the repository, where `rt staticlib ferrysprig` writes it,
-//! or from the folder that the environment variable `FERRYSPRIG_LIB` names.
+//! The crate links libferrysprig.a, for x86-64 Linux, from target/staticlib of the repository, where `tools/archive ferrysprig` writes
+//! it, or from the folder that the environment variable `FERRYSPRIG_LIB` names.
 //!
 //! # Panics
 //!

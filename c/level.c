@@ -1,17 +1,12 @@
 /* level IN OUT PROGRAMME LEVEL: writes a dialogue level (1 to 31) of a programme, counted from 1, into every frame of an .ac3 file,
    mends the checksums, writes the whole to a new file and prints what changed in each frame. The exit status is 0 if every byte of the
    file belonged to a frame that was corrected, 1 if not, and then no file is made; 2 if the program was called wrongly, could not read
-   or could not write. The file is mapped so that what is written to it stays with this program. */
-#define _POSIX_C_SOURCE 200809L /* for mmap */
+   or could not write. */
+#include "files.h"
+
 #include "ferrysprig.h"
-#include <errno.h>
-#include <fcntl.h>
-#include <stdio.h>
 #include <stdlib.h>
 #include <string.h>
-#include <sys/mman.h>
-#include <sys/stat.h>
-#include <unistd.h>
 
 enum { DONE = 0, REFUSED = 1, TROUBLE = 2 };
 
@@ -60,18 +55,12 @@ int main(int argc, char **argv) {
         fprintf(stderr, "usage: level IN OUT PROGRAMME LEVEL\n");
         return TROUBLE;
     }
-    int in = open(argv[1], O_RDONLY);
-    struct stat status;
-    if (in < 0 || fstat(in, &status) != 0)
+    size_t length;
+    uint8_t *capture = read_whole(argv[1], &length);
+    if (!capture)
         return said(argv[1], strerror(errno), TROUBLE);
-    if (S_ISDIR(status.st_mode))
-        return said(argv[1], strerror(EISDIR), TROUBLE);
-    size_t length = (size_t)status.st_size;
     if (length == 0)
         return said(argv[1], "the file is empty", REFUSED);
-    uint8_t *capture = mmap(NULL, length, PROT_READ | PROT_WRITE, MAP_PRIVATE, in, 0);
-    if (capture == MAP_FAILED)
-        return said(argv[1], strerror(errno), TROUBLE);
 
     for (size_t place = 0; place < length; place += (size_t)header[FERRYSPRIG_HEADER_ANSWER_BYTES]) {
         ferrysprig_correct(capture, length, place, programme, level, rows, room, changes, answer);
@@ -85,8 +74,7 @@ int main(int argc, char **argv) {
         ferrysprig_header(capture, length, place, rows, room, header); /* the header alone tells how long the frame is */
     }
 
-    int made = open(argv[2], O_WRONLY | O_CREAT | O_EXCL, 0666); /* no file is written over */
-    FILE *out = made < 0 ? NULL : fdopen(made, "wb");
+    FILE *out = make_new(argv[2]);
     if (!out || fwrite(capture, 1, length, out) != length || fclose(out) != 0)
         return said(argv[2], strerror(errno), TROUBLE);
     if (fflush(stdout) != 0 || ferror(stdout))

@@ -1,16 +1,11 @@
 /* level_changes CAPTURE: prints where the dialogue level of a capture changes: the byte, the time by frames and their sample rate, the old
    and the new dialnorm. The exit status is 0 if the level never changes, 1 if it does, 2 if the program was called wrongly, could not read
    or could not print. */
-#define _POSIX_C_SOURCE 200809L /* for mmap */
+#include "files.h"
+
 #include "ferrysprig.h"
-#include <errno.h>
-#include <fcntl.h>
-#include <stdio.h>
 #include <stdlib.h>
 #include <string.h>
-#include <sys/mman.h>
-#include <sys/stat.h>
-#include <unistd.h>
 
 enum { SAME = 0, CHANGES = 1, TROUBLE = 2 };
 
@@ -55,20 +50,14 @@ int main(int argc, char **argv) {
         fprintf(stderr, "usage: level_changes CAPTURE\n");
         return TROUBLE;
     }
-    int in = open(argv[1], O_RDONLY);
-    struct stat status;
-    if (in < 0 || fstat(in, &status) != 0)
-        return trouble(argv[1], strerror(errno));
-    size_t length = (size_t)status.st_size;
-    const uint8_t *capture = (const uint8_t *)""; /* an empty file cannot be mapped */
-    if (S_ISDIR(status.st_mode))
-        return trouble(argv[1], strerror(EISDIR));
-    if (length > 0 && (capture = mmap(NULL, length, PROT_READ, MAP_PRIVATE, in, 0)) == MAP_FAILED)
+    size_t length;
+    const uint8_t *capture = read_whole(argv[1], &length);
+    if (!capture)
         return trouble(argv[1], strerror(errno));
 
     /* Room for every frame that there could be; what no frame fills takes no memory. */
     size_t numbers = FERRYSPRIG_MOST_FRAMES(length) * FERRYSPRIG_INDEX_ENTRY_NUMBERS;
-    size_t *index = calloc(numbers + 1, sizeof *index);
+    size_t *index = (size_t *)calloc(numbers + 1, sizeof *index);
     if (!index)
         return trouble(argv[1], strerror(errno));
     ferrysprig_index(capture, length, rows, sizeof rows / sizeof *rows, index, numbers, 0, answer);

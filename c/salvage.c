@@ -1,15 +1,10 @@
 /* salvage IN OUT: goes through a damaged capture, writes what is left of its frames to a new file, one after the other, and prints where
    frames and gaps are. The exit status is 0 if there was no gap, 1 if there was, 2 if the program was called wrongly, could not read or
    could not write. The rooms are small, however long the capture is: where one is full, the walk goes on from the end of the last entry. */
-#define _POSIX_C_SOURCE 200809L /* for mmap */
+#include "files.h"
+
 #include "ferrysprig.h"
-#include <errno.h>
-#include <fcntl.h>
-#include <stdio.h>
 #include <string.h>
-#include <sys/mman.h>
-#include <sys/stat.h>
-#include <unistd.h>
 
 enum { WHOLE = 0, DAMAGED = 1, TROUBLE = 2 };
 
@@ -28,18 +23,11 @@ int main(int argc, char **argv) {
         fprintf(stderr, "usage: salvage IN OUT\n");
         return TROUBLE;
     }
-    int in = open(argv[1], O_RDONLY);
-    struct stat status;
-    if (in < 0 || fstat(in, &status) != 0)
+    size_t length;
+    const uint8_t *capture = read_whole(argv[1], &length);
+    if (!capture)
         return trouble(argv[1], strerror(errno));
-    size_t length = (size_t)status.st_size;
-    const uint8_t *capture = (const uint8_t *)""; /* an empty file cannot be mapped */
-    if (S_ISDIR(status.st_mode))
-        return trouble(argv[1], strerror(EISDIR));
-    if (length > 0 && (capture = mmap(NULL, length, PROT_READ, MAP_PRIVATE, in, 0)) == MAP_FAILED)
-        return trouble(argv[1], strerror(errno));
-    int made = open(argv[2], O_WRONLY | O_CREAT | O_EXCL, 0666); /* no file is written over */
-    FILE *frames = made < 0 ? NULL : fdopen(made, "wb");
+    FILE *frames = make_new(argv[2]);
     if (!frames)
         return trouble(argv[2], strerror(errno));
 

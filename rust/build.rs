@@ -1,4 +1,4 @@
-//! Links the archive that `rt staticlib ferrysprig` writes at the top of the repository; FERRYSPRIG_LIB names its folder where it stands
+//! Links the archive that `tools/archive ferrysprig` writes at the top of the repository; FERRYSPRIG_LIB names its folder where it stands
 //! elsewhere.
 
 use std::env;
@@ -27,7 +27,7 @@ fn main() {
     println!("cargo:rerun-if-changed={}", folder.join(ARCHIVE).display());
     if !folder.join(ARCHIVE).is_file() {
         eprintln!("ferrysprig: there is no {ARCHIVE} in {}", folder.display());
-        eprintln!("Build it with `rt staticlib ferrysprig` at the top of Ferrysprig's repository (it writes target/staticlib/{ARCHIVE}),");
+        eprintln!("Build it with `tools/archive ferrysprig` at the top of Ferrysprig's repository (it writes target/staticlib/{ARCHIVE}),");
         eprintln!("or set FERRYSPRIG_LIB to the folder that holds it.");
         exit(1);
     }

@@ -124,6 +124,10 @@ impl std::error::Error for Refusal {}
 /// assert_eq!(walk(&data, 0, 56, &hebap, 0..7), Err(Refusal::NoSuchBin));
 /// # Ok::<(), Refusal>(())
 /// ```
+///
+/// # Errors
+///
+/// Any [`Refusal`].
 pub fn walk(
     data: &[u8],
     at: usize,

@@ -100,6 +100,20 @@ impl fmt::Display for Refusal {
 impl std::error::Error for Refusal {}
 
 /// The frame at byte `place` of `capture` as a burst, of [`BYTES`] bytes. Bytes after the frame are not looked at.
+///
+/// ```
+/// use ferrysprig::burst;
+///
+/// let stream = include_bytes!("../../judge/frames/rate-192-2_0-tones.ac3");
+/// let second = burst::write(stream, 768)?;
+/// assert_eq!(second.len(), burst::BYTES);
+/// assert_eq!(second[8..776], stream[768..]); // behind four words
+/// # Ok::<(), burst::Refusal>(())
+/// ```
+///
+/// # Errors
+///
+/// [`Refusal::Frame`].
 pub fn write(capture: &[u8], place: usize) -> Result<Vec<u8>, Refusal> {
     let mut out = vec![0; BYTES];
     in_kept_room(|room| write_into(capture, place, room, &mut out).map(drop))?;
@@ -117,6 +131,10 @@ pub fn write(capture: &[u8], place: usize) -> Result<Vec<u8>, Refusal> {
 /// assert_eq!(burst::read(&burst), Err(Refusal::NotZero));
 /// # Ok::<(), Refusal>(())
 /// ```
+///
+/// # Errors
+///
+/// Any [`Refusal`] but `NoRoom`.
 pub fn read(burst: &[u8]) -> Result<Vec<u8>, Refusal> {
     in_kept_room(|room| read_into(burst, room, &mut [0; MOST_BYTES]).map(<[u8]>::to_vec))
 }
@@ -136,6 +154,10 @@ pub fn read(burst: &[u8]) -> Result<Vec<u8>, Refusal> {
 /// assert_eq!(burst::write_into(frame, 0, &mut rows, &mut out)?.len(), 6144);
 /// # Ok::<(), Refusal>(())
 /// ```
+///
+/// # Errors
+///
+/// [`Refusal::Frame`], or else [`Refusal::NoRoom`] where `out` is shorter than a burst.
 pub fn write_into<'a>(
     capture: &[u8],
     place: usize,
@@ -147,6 +169,20 @@ pub fn write_into<'a>(
 
 /// Reads as [`read()`] does, in room that the caller lends: `rows` as [`parse_into`](crate::parse_into) takes it, and `out`, whose front
 /// becomes the frame; [`MOST_BYTES`] are always enough. The rest of `out`, and on a refusal all of it, is not touched.
+///
+/// ```
+/// use ferrysprig::{burst, MOST_BYTES, MOST_ROWS, ROW_NUMBERS};
+///
+/// let stream = include_bytes!("../../judge/frames/rate-192-2_0-tones.ac3");
+/// let burst = burst::write(stream, 0)?;
+/// let (mut rows, mut out) = ([0; MOST_ROWS * ROW_NUMBERS], [0; MOST_BYTES]);
+/// assert_eq!(burst::read_into(&burst, &mut rows, &mut out)?, &stream[..768]);
+/// # Ok::<(), burst::Refusal>(())
+/// ```
+///
+/// # Errors
+///
+/// Any [`Refusal`].
 pub fn read_into<'a>(
     burst: &[u8],
     rows: &mut [i32],

@@ -71,6 +71,21 @@ impl std::error::Error for Refusal {}
 
 /// Writes another value into a field of the frame at byte `place` of `capture`. Its bits are the value then, and all others as they were.
 /// That the field may be edited is not looked at: ask [`Field::editable`]. (A span of more than 16 bits, or of none, is `WrongWidth`.)
+///
+/// ```
+/// use ferrysprig::{edit, Role};
+///
+/// # let mut stream = include_bytes!("../../judge/frames/rate-192-2_0-tones.ac3").to_vec();
+/// let frame = ferrysprig::parse_at(&stream, 768)?;
+/// let level = frame.find(Role::Dialnorm(0), -1).unwrap();
+/// edit::set(&mut stream, 768, level, 5)?;
+/// assert_eq!(ferrysprig::header_at(&stream, 768)?.value(Role::Dialnorm(0)), Some(5));
+/// # Ok::<(), Box<dyn std::error::Error>>(())
+/// ```
+///
+/// # Errors
+///
+/// Any [`Refusal`]; of a field that parsing gave, and that is no span, [`Refusal::TooLarge`] alone.
 pub fn set(capture: &mut [u8], place: usize, field: &Field, value: u32) -> Result<(), Refusal> {
     // (A value of 32 bits fits 64, for which alone the archive is built.)
     set_bits(capture, place, field.pos, field.width, value as usize)
@@ -91,6 +106,10 @@ pub fn set(capture: &mut [u8], place: usize, field: &Field, value: u32) -> Resul
 /// assert_eq!(capture, [0x00, 0x0B, 0x70]);
 /// # Ok::<(), Refusal>(())
 /// ```
+///
+/// # Errors
+///
+/// Any [`Refusal`].
 pub fn set_bits(
     capture: &mut [u8],
     place: usize,

@@ -10,7 +10,7 @@ use std::iter::FusedIterator;
 use std::slice::ChunksExact;
 
 /// A syntax element of the frame.
-#[derive(Clone, Debug, PartialEq, Eq)]
+#[derive(Clone, Debug, PartialEq, Eq, Hash)]
 #[non_exhaustive]
 pub struct Field {
     /// One of [`NAMES`](crate::NAMES).
@@ -34,6 +34,13 @@ pub struct Field {
 
 impl Field {
     /// An element that the caller reads itself, such as those of the tail, from the values above in their order. It has no part.
+    ///
+    /// ```
+    /// use ferrysprig::{Field, Role};
+    ///
+    /// let crc2 = Field::new("crc2", Role::Crc2, -1, -1, 3056, 16, 0x1234);
+    /// assert_eq!((crc2.end(), crc2.part), (3072, None));
+    /// ```
     #[must_use]
     pub fn new(
         name: &'static str,
@@ -65,12 +72,29 @@ impl Field {
     /// Whether its value never steers the rest, so that [`edit::set`](crate::edit::set) may write another one and every other field stays
     /// as it is. It is so for 39 of the [`NAMES`](crate::NAMES) and for nothing of the tail. (The bits of spans are free as well, but they
     /// are no value.)
+    ///
+    /// ```
+    /// let frame = ferrysprig::parse(include_bytes!("../../judge/frames/header-production.ac3"))?;
+    /// assert!(frame.named("dialnorm").unwrap().editable());
+    /// assert!(!frame.named("compre").unwrap().editable()); // it says whether compr follows
+    /// # Ok::<(), ferrysprig::Refusal>(())
+    /// ```
+    #[must_use]
     pub fn editable(&self) -> bool {
         number_of(self.name).is_some_and(raw::editable)
     }
 }
 
 /// The fields of the rows in a lent room, each made when it is asked for: nothing is allocated.
+///
+/// ```
+/// # let stream = include_bytes!("../../judge/frames/header-production.ac3");
+/// let mut parser = ferrysprig::Parser::new();
+/// let mut fields = parser.parse(stream)?.fields;
+/// assert_eq!(fields.next().map(|field| field.name), Some("syncword"));
+/// assert_eq!(fields.next_back().map(|field| field.name), Some("mantissas")); // those of the last block
+/// # Ok::<(), ferrysprig::Refusal>(())
+/// ```
 #[derive(Clone, Debug)]
 pub struct Fields<'a> {
     rows: ChunksExact<'a, i32>,

@@ -7,7 +7,7 @@ use std::array::from_fn;
 use std::fmt;
 
 /// What an accepted frame says of itself.
-#[derive(Clone, Debug, PartialEq, Eq)]
+#[derive(Clone, Debug, PartialEq, Eq, Hash)]
 #[non_exhaustive]
 pub struct Summary {
     /// The frame's length: the next frame starts so many bytes on.
@@ -57,7 +57,20 @@ pub(crate) fn summary(answer: &Answer) -> Summary {
 }
 
 /// An accepted frame.
-#[derive(Clone, Debug, PartialEq, Eq)]
+///
+/// ```
+/// use ferrysprig::Role;
+///
+/// let frame = ferrysprig::parse(include_bytes!("../../judge/frames/header-production.ac3"))?;
+/// assert_eq!(frame.value(Role::Dialnorm(0), -1), Some(20));
+/// assert_eq!(frame.named("mixlevel").map(|field| field.width), Some(5));
+/// let presence: Vec<i8> = frame.all(Role::DynrngExists(0)).map(|field| field.block).collect();
+/// assert_eq!(presence, [0, 1, 2, 3, 4, 5]); // dynrnge, once in each block
+/// assert_eq!(frame.find(Role::Mantissas, 5).map(|span| span.end()), Some(frame.summary.audio_end));
+/// assert!(frame.summary.audio_end <= frame.total_bits());
+/// # Ok::<(), ferrysprig::Refusal>(())
+/// ```
+#[derive(Clone, Debug, PartialEq, Eq, Hash)]
 #[non_exhaustive]
 pub struct Frame {
     /// End to end from bit 0 to `audio_end`.
@@ -150,7 +163,7 @@ impl<'a> FrameRef<'a> {
 }
 
 /// Why a frame, or its header, was not accepted, and how far it was read.
-#[derive(Clone, Debug, PartialEq, Eq)]
+#[derive(Clone, Debug, PartialEq, Eq, Hash)]
 #[non_exhaustive]
 pub struct Refusal {
     /// 1 to 23; of a header alone 1 to 5 or 7. [`blocks_into`](crate::blocks_into) gives 24, with nothing read, where it is told of another

@@ -56,7 +56,17 @@ impl HeaderSummary {
 }
 
 /// A frame's header.
-#[derive(Clone, Debug, PartialEq, Eq)]
+///
+/// ```
+/// use ferrysprig::Role;
+///
+/// let header = ferrysprig::header(include_bytes!("../../judge/frames/header-production.ac3"))?;
+/// assert_eq!(header.value(Role::Dialnorm(0)), Some(20));
+/// assert_eq!(header.find(Role::Dialnorm(0)), header.named("dialnorm"));
+/// assert_eq!(header.named("compr"), None); // there is none
+/// # Ok::<(), ferrysprig::Refusal>(())
+/// ```
+#[derive(Clone, Debug, PartialEq, Eq, Hash)]
 #[non_exhaustive]
 pub struct Header {
     /// End to end from bit 0 to `end` of the summary, in no block.

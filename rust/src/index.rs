@@ -150,6 +150,16 @@ impl Index {
     }
 
     /// Makes the index of a capture. There is room for whatever it holds, so nothing is refused.
+    ///
+    /// ```
+    /// use ferrysprig::index::Index;
+    ///
+    /// # let stream = include_bytes!("../../judge/frames/header-mix-levels.ac3");
+    /// let index = Index::of(stream);
+    /// let places: Vec<usize> = index.entries().map(|frame| frame.place).collect();
+    /// assert_eq!(places, [0, 768]);
+    /// assert_eq!(index.get(1).map(|frame| frame.range()), Some(768..index.end()));
+    /// ```
     #[must_use]
     pub fn of(capture: &[u8]) -> Index {
         let mut index = Index::new();
@@ -174,6 +184,10 @@ impl Index {
     /// assert_eq!(index.extend(&stream[1..]), Err(Refusal::OtherEntry)); // that is another capture
     /// assert_eq!(index.len(), 2);
     /// ```
+    ///
+    /// # Errors
+    ///
+    /// [`Refusal::OtherEntry`].
     pub fn extend(&mut self, capture: &[u8]) -> Result<usize, Refusal> {
         let before = self.len();
         let appended = capture.len().saturating_sub(self.end());
@@ -285,6 +299,10 @@ pub const fn most_frames(bytes: usize) -> usize {
 /// assert_eq!(index_into(stream, &mut rows, &mut index, 0), Ok(2));
 /// assert_eq!(index, [0, 768, 7, 31, 0, 768, 768, 7, 31, 0]);
 /// ```
+///
+/// # Errors
+///
+/// Any [`Refusal`].
 pub fn index_into(
     capture: &[u8],
     rows: &mut [i32],

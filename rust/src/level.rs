@@ -199,6 +199,21 @@ impl std::error::Error for Refusal {}
 /// Writes the dialogue level of a programme into the frame at byte `place` of `capture`, and mends both checksums. Programmes are counted
 /// from one; the level is 1 to 31, in dB below full scale. Bytes before the place and after the frame stay as they are, and on a refusal so
 /// does the frame.
+///
+/// ```
+/// use ferrysprig::level::correct_level;
+///
+/// # let mut stream = include_bytes!("../../judge/frames/header-mix-levels.ac3").to_vec();
+/// let changes = correct_level(&mut stream, 768, 1, 24)?; // of the second frame
+/// assert_eq!(changes.last().unwrap().to_string(), "dialnorm 31 -> 24");
+/// let header = ferrysprig::header_at(&stream, 768).unwrap();
+/// assert_eq!(header.named("dialnorm").map(|field| field.value), Some(24));
+/// # Ok::<(), ferrysprig::level::Refusal>(())
+/// ```
+///
+/// # Errors
+///
+/// Any [`Refusal`]; of the frame's own 7 is not given.
 pub fn correct_level(
     capture: &mut [u8],
     place: usize,
@@ -210,6 +225,21 @@ pub fn correct_level(
 
 /// Does what [`correct_level`] does, in room that the caller lends, as [`parse_into`](crate::parse_into) takes it. The rows there are those
 /// of the frame as it was.
+///
+/// ```
+/// use ferrysprig::level::{correct_level_into, Refusal};
+/// use ferrysprig::{MOST_ROWS, ROW_NUMBERS};
+///
+/// # let mut stream = include_bytes!("../../judge/frames/header-mix-levels.ac3").to_vec();
+/// let mut rows = [0; MOST_ROWS * ROW_NUMBERS];
+/// assert_eq!(correct_level_into(&mut stream, 0, 1, 24, &mut rows[..9]), Err(Refusal::Frame(7))); // room for one row
+/// assert_eq!(correct_level_into(&mut stream, 0, 1, 24, &mut rows)?.len(), 2); // crc1 and dialnorm
+/// # Ok::<(), Refusal>(())
+/// ```
+///
+/// # Errors
+///
+/// Any [`Refusal`].
 pub fn correct_level_into(
     capture: &mut [u8],
     place: usize,

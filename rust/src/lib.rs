@@ -151,14 +151,14 @@
 //!
 //! # Building
 //!
-//! The crate links libferrysprig.a, for x86-64 Linux, from target/staticlib of the repository, where `rt staticlib ferrysprig` writes it,
-//! or from the folder that the environment variable `FERRYSPRIG_LIB` names.
+//! The crate links libferrysprig.a, for x86-64 Linux, from target/staticlib of the repository, where `tools/archive ferrysprig` writes
+//! it, or from the folder that the environment variable `FERRYSPRIG_LIB` names.
 //!
 //! # Panics
 //!
 //! No input makes a function of this crate panic. They do where the linked archive is not Ferrysprig's and gives numbers without meaning.
 
-#![warn(missing_docs)]
+#![deny(missing_docs, missing_debug_implementations)]
 #![deny(unsafe_code)] // but for raw
 
 pub mod aht;
@@ -190,6 +190,20 @@ pub use parser::{
 /// True when bits `[a, a+n)` of `x` equal bits `[b, b+n)` of `y`, most significant bit of a byte first: what an editor asks of the spans
 /// that it must not change. Where either range ends past its bytes the answer is false (the original panics there); a range of no bits ends
 /// where it starts.
+///
+/// ```
+/// use ferrysprig::{level::correct_level, range_eq};
+///
+/// # let stream = include_bytes!("../../judge/frames/header-mix-levels.ac3");
+/// let mut mended = stream.to_vec();
+/// correct_level(&mut mended, 0, 1, 24)?;
+/// let frame = ferrysprig::parse(stream).unwrap();
+/// let (audio, end) = (frame.summary.block_starts[0], frame.summary.audio_end);
+/// assert!(range_eq(stream, audio, &mended, audio, end - audio)); // the blocks are as they were
+/// assert!(!range_eq(stream, 0, &mended, 0, audio)); // the header is not
+/// assert!(!range_eq(stream, 0, &mended, 8 * mended.len(), 1)); // nor are there bits past the end
+/// # Ok::<(), ferrysprig::level::Refusal>(())
+/// ```
 #[must_use]
 pub fn range_eq(x: &[u8], a: usize, y: &[u8], b: usize, n: usize) -> bool {
     raw::range_eq(x, a, y, b, n)

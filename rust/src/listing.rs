@@ -100,11 +100,35 @@ pub const fn most_text(packed_bytes: usize) -> usize {
 }
 
 /// The packed form of a listing, which is all of `text`. It is never longer than the text.
+///
+/// ```
+/// use ferrysprig::listing::{pack, Refusal};
+///
+/// assert_eq!(pack(b"audio 7 8 9\n")?, [1, 1, 8, 9, 10]);
+/// assert_eq!(pack(b"audio 7 8\n"), Err(Refusal::Malformed));
+/// # Ok::<(), Refusal>(())
+/// ```
+///
+/// # Errors
+///
+/// [`Refusal::Malformed`], `TooLarge`, `Ends` or `LeftOver`.
 pub fn pack(text: &[u8]) -> Result<Vec<u8>, Refusal> {
     in_room(text.len(), |out| raw::pack(text, out).0)
 }
 
 /// The text of a packed listing, which is all of `packed`. It is never longer than [`most_text`] says, and always ASCII.
+///
+/// ```
+/// use ferrysprig::listing::{unpack, Refusal};
+///
+/// assert_eq!(unpack(&[1, 1, 8, 9, 10])?, b"audio 7 8 9\n");
+/// assert_eq!(unpack(&[1, 1, 8, 9, 10, 0]), Err(Refusal::LeftOver));
+/// # Ok::<(), Refusal>(())
+/// ```
+///
+/// # Errors
+///
+/// [`Refusal::NeedlessGroup`], `TooLarge`, `Ends`, `LeftOver` or `WrongNumber`.
 pub fn unpack(packed: &[u8]) -> Result<Vec<u8>, Refusal> {
     in_room(most_text(packed.len()), |out| raw::unpack(packed, out).0)
 }
@@ -122,12 +146,30 @@ pub fn unpack(packed: &[u8]) -> Result<Vec<u8>, Refusal> {
 /// assert_eq!(out[5], 0xAA);
 /// # Ok::<(), Refusal>(())
 /// ```
+///
+/// # Errors
+///
+/// Those of [`pack`], or else [`Refusal::NoRoom`].
 pub fn pack_into<'a>(text: &[u8], out: &'a mut [u8]) -> Result<&'a [u8], Refusal> {
     done(raw::pack(text, out))
 }
 
 /// Unpacks as [`unpack`] does, to the front of `out`, which the caller lends. The rest of `out`, and on a refusal all of it, is not
 /// touched.
+///
+/// ```
+/// use ferrysprig::listing::{most_text, unpack_into, Refusal};
+///
+/// let packed = [1, 1, 8, 9, 10];
+/// let mut out = vec![0; most_text(packed.len())]; // always enough
+/// assert_eq!(unpack_into(&packed, &mut out)?, b"audio 7 8 9\n");
+/// assert_eq!(unpack_into(&packed, &mut out[..11]), Err(Refusal::NoRoom));
+/// # Ok::<(), Refusal>(())
+/// ```
+///
+/// # Errors
+///
+/// Those of [`unpack`], or else [`Refusal::NoRoom`].
 pub fn unpack_into<'a>(packed: &[u8], out: &'a mut [u8]) -> Result<&'a [u8], Refusal> {
     done(raw::unpack(packed, out))
 }

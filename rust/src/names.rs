@@ -64,6 +64,13 @@ pub(crate) fn meaning(refusal: u8) -> &'static str {
 /// The parser gives no `Crc2`, `CrcRsv`, `AuxBits`, `AuxDataL` or `AuxDataE` (they stand after `audio_end`), and no `BlkStrtInfoE` or
 /// `BlkStrtInfo` (they are E-AC-3's). They are here as in the original, so that a caller's tail can be appended to the fields. The list is
 /// the original's whole list, so it is not marked `non_exhaustive`.
+///
+/// ```
+/// use ferrysprig::Role;
+///
+/// assert!(Role::Dynrng(0).is_drc() && Role::ComprExists(1).is_drc() && !Role::Dialnorm(0).is_drc());
+/// assert!(Role::Crc1.is_checksum() && Role::Mantissas.is_span());
+/// ```
 #[derive(Clone, Copy, Debug, PartialEq, Eq, Hash)]
 pub enum Role {
     /// Any other element.

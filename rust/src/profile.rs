@@ -144,6 +144,19 @@ impl std::error::Error for Refusal {}
 
 /// Holds the frame at byte `place` of `capture` against the profile. Bytes after the frame are not looked at; a place past the end is
 /// refusal 1.
+///
+/// ```
+/// use ferrysprig::profile::{check, Profile};
+///
+/// let stream = include_bytes!("../../judge/frames/rate-192-2_0-tones.ac3");
+/// assert_eq!(check(stream, 768)?, Profile::Within);
+/// assert_eq!(check(stream, 769).unwrap_err().number, 2); // no sync word there
+/// # Ok::<(), ferrysprig::profile::Refusal>(())
+/// ```
+///
+/// # Errors
+///
+/// The frame's own [`Refusal`], 1 to 23 but for 7.
 pub fn check(capture: &[u8], place: usize) -> Result<Profile, Refusal> {
     in_kept_room(|room| check_into(capture, place, room).map(|(profile, _)| profile))
 }
@@ -167,6 +180,10 @@ pub fn check(capture: &[u8], place: usize) -> Result<Profile, Refusal> {
 /// assert_eq!(check_into(frame, 0, &mut room[..9]).unwrap_err().number, 7); // room for one row
 /// # Ok::<(), ferrysprig::profile::Refusal>(())
 /// ```
+///
+/// # Errors
+///
+/// The frame's own [`Refusal`], 1 to 23.
 pub fn check_into<'a>(
     capture: &[u8],
     place: usize,

@@ -161,7 +161,7 @@ impl fmt::Display for Refusal {
 impl std::error::Error for Refusal {}
 
 /// What is left of a capture.
-#[derive(Clone, Debug, PartialEq, Eq)]
+#[derive(Clone, Debug, PartialEq, Eq, Hash)]
 #[non_exhaustive]
 pub struct Salvaged {
     /// Frames and gaps, end to end from byte 0 to the capture's end.
@@ -171,6 +171,15 @@ pub struct Salvaged {
 }
 
 /// Goes through a capture. There is room for whatever it holds, so nothing is refused; an empty capture has no entry.
+///
+/// ```
+/// use ferrysprig::salvage::{salvage, Entry};
+///
+/// let stream = include_bytes!("../../judge/frames/rate-192-2_0-tones.ac3");
+/// let salvaged = salvage(&stream[..1000]); // the second frame is cut
+/// assert_eq!(salvaged.entries[1], Entry::Gap { place: 768, length: 232 });
+/// assert_eq!(salvaged.frames, stream[..768]);
+/// ```
 #[must_use]
 pub fn salvage(capture: &[u8]) -> Salvaged {
     let mut list = vec![0; ENTRY_NUMBERS * most_entries(capture.len())];
@@ -212,6 +221,18 @@ impl<'a> Lent<'a> {
 }
 
 /// A walk that stopped before the capture's end: why, and what it left. What was written stays: whole entries, and the frames among them.
+///
+/// It refers to the lent rooms. To pass the error on, take its [`Refusal`], which `?` does where that is asked for:
+///
+/// ```
+/// use ferrysprig::salvage::{salvage_into, Refusal};
+///
+/// fn frames(capture: &[u8], out: &mut [u8]) -> Result<usize, Refusal> {
+///     Ok(salvage_into(capture, &mut [0; 9], &mut [0; 3], out)?.frames.len())
+/// }
+/// let stream = include_bytes!("../../judge/frames/rate-192-2_0-tones.ac3");
+/// assert_eq!(frames(stream, &mut []), Err(Refusal::NoRow)); // room for one row
+/// ```
 #[derive(Clone, Copy, Debug)]
 #[non_exhaustive]
 pub struct Stopped<'a> {
@@ -228,6 +249,12 @@ impl fmt::Display for Stopped<'_> {
 }
 
 impl std::error::Error for Stopped<'_> {}
+
+impl From<Stopped<'_>> for Refusal {
+    fn from(stopped: Stopped<'_>) -> Refusal {
+        stopped.refusal
+    }
+}
 
 /// Goes through a capture in room that the caller lends: `rows` as [`parse_into`](crate::parse_into) takes it, `list`, three numbers to an
 /// entry, and `out`. The rest of `list` and `out` is not touched, on refusals too. With [`MOST_ROWS`](crate::MOST_ROWS) rows,
@@ -264,6 +291,10 @@ impl std::error::Error for Stopped<'_> {}
 /// assert_eq!(frames, salvage(&capture).frames);
 /// assert!(ranges.into_iter().eq(salvage(&capture).entries.into_iter().map(Entry::range)));
 /// ```
+///
+/// # Errors
+///
+/// [`Stopped`], with any [`Refusal`] and what was written before.
 pub fn salvage_into<'a>(
     capture: &[u8],
     rows: &mut [i32],
@@ -335,6 +366,10 @@ impl std::error::Error for Trouble {
 /// # std::fs::remove_dir_all(&folder)?;
 /// # Ok::<(), Box<dyn std::error::Error>>(())
 /// ```
+///
+/// # Errors
+///
+/// [`Trouble`] with either file.
 pub fn salvage_file(
     input: impl AsRef<Path>,
     output: impl AsRef<Path>,
@@ -368,6 +403,10 @@ pub fn salvage_file(
 /// assert_eq!(gaps, [stream.len()..capture.len()]);
 /// # Ok::<(), ferrysprig::salvage::Trouble>(())
 /// ```
+///
+/// # Errors
+///
+/// [`Trouble`] with either stream.
 pub fn salvage_stream(
     input: impl Read,
     output: impl Write,

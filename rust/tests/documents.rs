@@ -205,6 +205,18 @@ fn rules_are_those_of_the_header() {
     assert_eq!(table("FERRYSPRIG_RULES"), said);
 }
 
+/// The header's numbers of roles are their places in its table, which the crate's roles are held to.
+#[test]
+fn roles_stand_at_their_numbers() {
+    let table = table("FERRYSPRIG_ROLES");
+    let numbers = places("FERRYSPRIG_ROLE_");
+    assert_eq!(numbers.len(), 14);
+    for (name, number) in numbers {
+        let spelt = table[number].to_ascii_uppercase();
+        assert_eq!(name.replace('_', ""), spelt);
+    }
+}
+
 #[test]
 fn places_are_those_of_the_header() {
     let row = [

@@ -55,7 +55,7 @@ pub struct RoleNumbers(pub u8, pub u8);
 
 // Why reading stopped: the refusal's number, 0 while there is none; and the name and the block of the element that did not fit.
 pub struct Refusal {
-    pub number: u8,
+    pub number: u32,
     pub name: u8,
     pub block: u8,
 }

@@ -103,7 +103,7 @@ pub fn parameters_of(fscod: u8, st: AllocState, p: Part) -> Parameters
         dbknee: tables::db_knee(curve.dbpbcod),
         fscod: fscod as usize,
         segments,
-        count: deltas.count,
+        count: deltas.count as usize,
         snroffset: alloc::snr_offset(offsets.csnroffst, offsets.fsnroffst[at]),
         floor: tables::floor(curve.floorcod),
     }

@@ -9,7 +9,7 @@ use Rattle.mantissas.proofs.parameters.parameters_of.Tie as tie
 returns : tie.Need-returns
 returns c =
     let t8 = c .before in
-    let t7 = t8 .before .before in
+    let t7 = t8 .before .before .before in
     let t6 = t7 .before in
     let t5 = t6 .before in
     let t4 = t5 .before .before in
@@ -42,9 +42,10 @@ parameters-of-spec =
     (λ c κs. search needs)  -- leak-of-requires
     (λ c κs. search needs)  -- leak-of-requires-2
     (λ c κs. search needs)  -- db-knee-requires
+    (λ c. search needs)  -- cast-count
     (λ c. search needs)  -- element-copy-out-snr-offset
     (λ c κs.
-    let s = c .before .before .before .before .before .before .before .before .before .before in
+    let s = c .before .before .before .before .before .before .before .before .before .before .before in
     (s .pre .1 .offsets .csnroffst, s .pre .1 .offsets .fsnroffst (s .args .p .slot)))  -- snr-offset-requires
     (λ c κs. search needs)  -- floor-requires
     returns)

@@ -95,8 +95,8 @@ pub fn parameters_of(fscod: u8, st: AllocState, p: Part) -> Parameters
     let deltas = deltas_of(st, slot);
     let segments = deltas.segments;
     Parameters {
-        start: p.start,
-        end: p.end,
+        start: p.start as usize,
+        end: p.end as usize,
         gains,
         fastleak: leak_of(slot, leak.cplfleak),
         slowleak: leak_of(slot, leak.cplsleak),

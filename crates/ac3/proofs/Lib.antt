@@ -11,6 +11,7 @@ pub mod Unfitting
 pub mod Rooms
 pub mod Parts
 pub mod MoreRoom
+pub mod Numbered
 pub mod Useless
 pub mod Coordinates
 pub mod OneAnswer

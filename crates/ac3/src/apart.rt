@@ -15,6 +15,7 @@ use syntax::refusals::TOO_SHORT;
 ghost use mathlib.Core.Bool.{_&&_};
 ghost use mathlib.Core.List.{List};
 ghost use mathlib.Core.Path.{_≡_};
+ghost use Prim.Native.Nat.{_<_};
 ghost use lib.Dec.{eqb};
 ghost use lib.IntN.{ℤ};
 ghost use lib.ListN.{length};
@@ -39,10 +40,11 @@ const UNFIT: Refusal = Refusal {
 
 // The answer where reading stopped: its header is all zeros.
 fn no_header(c: Cursor) -> HeaderAnswer
+    requires { ⌜ c .stop .number < 256 ⌝ }
     ensures { λ r. ⌜ r ≡ record { refusal = c .stop .number; rows = c .count; bit = c .at; name = c .stop .name; block = c .stop .block; header = noHeader } ⌝ }
 {
     HeaderAnswer {
-        refusal: c.stop.number,
+        refusal: c.stop.number as u8,
         rows: c.count,
         bit: c.at,
         name: c.stop.name,

@@ -14,6 +14,7 @@ use syntax::cursors::START;
 use syntax::cursors::halt;
 use syntax::refusals::TOO_SHORT;
 ghost use mathlib.Core.Path.{_≡_};
+ghost use Prim.Native.Nat.{_<_};
 ghost use Rattle.syntax.specs.Place.{exec, fresh};
 ghost use Rattle.syntax.specs.Reads.{Goes, place};
 ghost use Rattle.header.specs.Sound.{SoundHeader};
@@ -78,10 +79,11 @@ pub struct HeaderAnswer {
 
 // The answer where reading stopped: its summary is all zeros.
 fn refused(c: Cursor) -> Answer
+    requires { ⌜ c .stop .number < 256 ⌝ }
     ensures { λ r. ⌜ r ≡ record { refusal = c .stop .number; rows = c .count; bit = c .at; name = c .stop .name; block = c .stop .block; summary = grammar.noSummary } ⌝ }
 {
     Answer {
-        refusal: c.stop.number,
+        refusal: c.stop.number as u8,
         rows: c.count,
         bit: c.at,
         name: c.stop.name,

@@ -53,7 +53,7 @@ fn bandwidth(
         let mut sent = old.sent;
         let mut chbwcod = old.chbwcod;
         sent[at] = true;
-        chbwcod[at] = code.value as usize;
+        chbwcod[at] = code.value as u8;
         BandwidthsRead {
             bandwidths: Bandwidths { sent, chbwcod },
             cursor,
@@ -113,7 +113,7 @@ fn channel_end(c: Cursor, coupling: Coupling, bandwidths: Bandwidths, ch: u8) ->
     }
     let cursor = refuse_if(c, !bandwidths.sent[at], NO_BANDWIDTH);
     EndRead {
-        end: past_channel(bandwidths.chbwcod[at]),
+        end: past_channel(bandwidths.chbwcod[at] as usize),
         cursor,
     }
 }

@@ -17,5 +17,5 @@ pub struct ChannelFlags {
 // The bandwidths in force: a channel's code counts once it was sent.
 pub struct Bandwidths {
     pub sent: [bool; 5],
-    pub chbwcod: [usize; 5],
+    pub chbwcod: [u8; 5],
 }

@@ -25,19 +25,19 @@ fn covers(cover: Cover, set: Set) -> bool
     ensures { λ r. ⌜ r ≡ grammar.covers cover (set .slot) (set .start) (set .end) ⌝ }
 {
     let at = set.slot as usize;
-    cover.sent[at] && (cover.start[at] == set.start && cover.end[at] == set.end)
+    cover.sent[at] && (cover.start[at] as usize == set.start && cover.end[at] as usize == set.end)
 }
 
 // Exponents of these bins were sent.
 fn covering(set: Set, cover: Cover) -> Cover
-    requires { ⌜ set .slot < 7 ⌝ }
+    requires { ⌜ (set .slot < 7) × ((set .start < 254) × (set .end < 254)) ⌝ }
     ensures { λ r. ⌜ r ≡ grammar.covering (set .slot) (set .start) (set .end) cover ⌝ }
 {
     let at = set.slot as usize;
     let mut next = cover;
     next.sent[at] = true;
-    next.start[at] = set.start;
-    next.end[at] = set.end;
+    next.start[at] = set.start as u8;
+    next.end[at] = set.end as u8;
     next
 }
 

@@ -37,7 +37,11 @@ fn push(ps: Parts, slot: u8, start: usize, end: usize) -> Parts
 {
     let at = ps.count;
     let mut list = ps.list;
-    list[at] = Part { slot, start, end };
+    list[at] = Part {
+        slot,
+        start: start as u8,
+        end: end as u8,
+    };
     Parts {
         count: at + 1,
         list,

@@ -46,8 +46,8 @@ pub struct Block {
 // A slot in use, with its first bin and the first bin past its last.
 pub struct Part {
     pub slot: u8,
-    pub start: usize,
-    pub end: usize,
+    pub start: u8,
+    pub end: u8,
 }
 
 // The slots in use, in the order of their mantissas.

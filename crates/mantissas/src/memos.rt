@@ -139,7 +139,7 @@ fn count_slot(by: Setting, exps: &[[i16; 256]; 7], p: Part) -> Counts
 {
     let mut pointers = no_pointers();
     slot_pointers(&mut pointers, by, exps, p);
-    count_bins(&pointers, p.start, p.end)
+    count_bins(&pointers, p.start as usize, p.end as usize)
 }
 
 // The same, counted only where what was kept was counted from something else.

@@ -95,15 +95,15 @@ pub fn parameters_of(fscod: u8, st: AllocState, p: Part) -> Parameters
     let deltas = deltas_of(st, slot);
     let segments = deltas.segments;
     Parameters {
-        start: p.start,
-        end: p.end,
+        start: p.start as usize,
+        end: p.end as usize,
         gains,
         fastleak: leak_of(slot, leak.cplfleak),
         slowleak: leak_of(slot, leak.cplsleak),
         dbknee: tables::db_knee(curve.dbpbcod),
         fscod: fscod as usize,
         segments,
-        count: deltas.count,
+        count: deltas.count as usize,
         snroffset: alloc::snr_offset(offsets.csnroffst, offsets.fsnroffst[at]),
         floor: tables::floor(curve.floorcod),
     }

@@ -61,7 +61,14 @@ fn walk_parts(c: Cursor, item: Item, by: Setting, exps: &[[i16; 256]; 7], ps: Pa
     for i in 0..count {
         let p = ps.list[i];
         let pointers = part_pointers(by, exps, p);
-        let walked = walk_bins(cursor, item, counts, &pointers, p.start, p.end);
+        let walked = walk_bins(
+            cursor,
+            item,
+            counts,
+            &pointers,
+            p.start as usize,
+            p.end as usize,
+        );
         counts = walked.counts;
         cursor = walked.cursor;
     }

@@ -236,7 +236,10 @@ fn new_deltas(s: &[u8], rows: &mut [i32], c: Cursor, blk: u8, slot: u8) -> SlotR
         cursor = next.cursor;
     }
     SlotRead {
-        deltas: Deltas { count, segments },
+        deltas: Deltas {
+            count: count as u8,
+            segments,
+        },
         cursor,
     }
 }

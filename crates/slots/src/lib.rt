@@ -60,8 +60,8 @@ pub struct Strategies {
 // The bins that the exponents in force cover, for each slot.
 pub struct Cover {
     pub sent: [bool; 7],
-    pub start: [usize; 7],
-    pub end: [usize; 7],
+    pub start: [u8; 7],
+    pub end: [u8; 7],
 }
 
 // Bit allocation information (baie).
@@ -89,7 +89,7 @@ pub struct CouplingLeak {
 
 // Delta segments of a slot: offset, length and code of each.
 pub struct Deltas {
-    pub count: usize,
+    pub count: u8,
     pub segments: [u8; 24],
 }
 

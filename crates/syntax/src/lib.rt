@@ -55,16 +55,16 @@ pub struct RoleNumbers(pub u8, pub u8);
 
 // Why reading stopped: the refusal's number, 0 while there is none; and the name and the block of the element that did not fit.
 pub struct Refusal {
-    pub number: u8,
+    pub number: u16,
     pub name: u8,
     pub block: u8,
 }
 
 // Where reading stands: the first bit not yet read, the frame's end in bits, the rows written, and the refusal.
 pub struct Cursor {
+    pub count: usize,
     pub at: u16,
     pub limit: u16,
-    pub count: usize,
     pub stop: Refusal,
 }
 

@@ -2,6 +2,8 @@
 use mathlib.Core.Path.{ap}
 use borrow.Author.Needs.{needs}
 use Rattle.ac3.specs.Frame.{answered}
+use Rattle.ac3.proofs.Marked.{marked-audio}
+use Rattle.ac3.proofs.Numbered.{small}
 use Rattle.ac3.proofs.Told.{was-refused, was-read}
 use Rattle.ac3.proofs.blocks_after.Statement.{statement}
 use Rattle.ac3.proofs.blocks_after.Tie as tie
@@ -25,7 +27,7 @@ blocks-after-spec =
     tie.close
     (tie.spec
     (λ c κs. search needs)  -- audio-requires
-    (λ c κs. search needs)  -- refused-requires
+    (λ c κs. let t1 = c .before .before .before .before .before in small (marked-audio _) (t1 .audio .ensures) (t1 .before .before .before .pre .0) (c .if1 .taken))  -- refused-requires
     (λ c. search needs)  -- same-length
     no-audio
     (λ c. search needs)  -- same-length-2

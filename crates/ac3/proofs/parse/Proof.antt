@@ -1,6 +1,6 @@
 -- `ac3::parse` meets its contract: the part that starts at the place is what is left when as many bytes are dropped. Assumes nothing.
 use mathlib.Core.List.{List}
-use mathlib.Core.Path.{_≡_}
+use mathlib.Core.Path.{_≡_, ap}
 use Prim.Native.Nat.{ℕ, _-_}
 use native.Mathlib.Omega.{arith}
 use lib.IntN.{ℤ}
@@ -41,7 +41,7 @@ parse-spec =
     tie.close
     (tie.spec
     (λ c κs. search needs)  -- halt-requires
-    (λ c κs. search needs)  -- refused-requires
+    (λ c κs. omega (arith, ap (λ d. d .stop .number) (c .halt .ensures)))  -- refused-requires
     past
     (λ c. search needs)  -- sub-syncframe
     (λ c. search needs)  -- part-syncframe-start

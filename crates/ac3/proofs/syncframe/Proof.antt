@@ -1,7 +1,10 @@
 -- `ac3::syncframe` meets its contract: header and blocks are read one after the other, and a header refusal is the frame's. Assumes nothing.
-use mathlib.Core.Path.{ap, _∙_}
+use mathlib.Core.Bool.{true}
+use mathlib.Core.Path.{refl, ap, _∙_}
 use borrow.Author.Needs.{needs}
 use Rattle.ac3.specs.Frame.{answered}
+use Rattle.ac3.proofs.Marked.{marked-header}
+use Rattle.ac3.proofs.Numbered.{small}
 use Rattle.ac3.proofs.Told.{ends-there, goes-on}
 use Rattle.ac3.proofs.syncframe.Statement.{statement}
 use Rattle.ac3.proofs.syncframe.Tie as tie
@@ -23,7 +26,7 @@ syncframe-spec =
     tie.close
     (tie.spec
     (λ c κs. search needs)  -- read-requires
-    (λ c κs. search needs)  -- refused-requires
+    (λ c κs. let t1 = c .before .before .before .before .before in small (marked-header {w = true}) (t1 .read .ensures .0) refl (c .if1 .taken))  -- refused-requires
     (λ c. search needs)  -- same-length
     no-header
     (λ c κs. (c .before .if1 .left, c .before .before .before .before .before .before .read .ensures .1))  -- blocks-after-requires

@@ -1,5 +1,6 @@
 -- `ac3::apart::afresh_if` meets its contract: header and blocks, from the header's first row on, are the whole parse. Assumes nothing.
-use mathlib.Core.Path.{sym, _∙_}
+use mathlib.Core.Path.{ap, sym, _∙_}
+use native.Mathlib.Omega.{arith}
 use borrow.Author.Needs.{needs}
 use Rattle.ac3.specs.Promise.{call}
 use Rattle.ac3.proofs.HeaderAndBlocks.{afresh-is}
@@ -26,5 +27,5 @@ afresh-if-spec =
     (λ c. search needs)  -- same-length
     taken
     (λ c κs. search needs)  -- halt-requires
-    (λ c κs. search needs)  -- refused-requires
+    (λ c κs. omega (arith, ap (λ d. d .stop .number) (c .halt .ensures)))  -- refused-requires
     untouched)

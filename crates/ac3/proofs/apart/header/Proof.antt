@@ -1,4 +1,5 @@
 -- `ac3::apart::header` meets its contract: the part that starts at the place is what is left when as many bytes are dropped. Assumes nothing.
+use mathlib.Core.Path.{ap}
 use Prim.Native.Nat.{_-_}
 use native.Mathlib.Omega.{arith}
 use lib.ListN.{length, drop, length-drop, drop-of-length-le}
@@ -26,7 +27,7 @@ header-spec =
     tie.close
     (tie.spec
     (λ c κs. search needs)  -- halt-requires
-    (λ c κs. search needs)  -- no-header-requires
+    (λ c κs. omega (arith, ap (λ d. d .stop .number) (c .halt .ensures)))  -- no-header-requires
     past
     (λ c. search needs)  -- sub-header-of
     (λ c. search needs)  -- part-header-of-start

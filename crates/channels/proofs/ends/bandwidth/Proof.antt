@@ -59,7 +59,6 @@ bandwidth-spec =
     refused
     (λ c. omega (arith, c .before .before .before .before .before .before .before .before .before .before .before .before .before .before .pre .0))  -- array-write-sent
     (λ c. search needs)  -- cast-chbwcod
-    (λ c. omega (arith, c .before .before .before .before .before .before .before .before .before .before .before .before .before .before .before .pre .0))  -- mul-chbwcod
     (λ c. omega (arith, c .before .before .before .before .before .before .before .before .before .before .before .before .before .before .before .pre .0))  -- array-write-chbwcod
     (λ c. sent c .0 .long)  -- same-length-2
     sent

@@ -26,6 +26,8 @@ pub push-spec : {M : Type 1} → statement M
 push-spec =
     tie.close
     (tie.spec
+    (λ c. omega (arith, c .before .pre .2 .start))  -- cast-start
+    (λ c. omega (arith, c .before .pre .2 .end))  -- cast-end
     (λ c. search needs)  -- mul-list
     (λ c. search needs)  -- array-set-from-list
     (λ c. search needs)  -- add-t8

@@ -9,7 +9,7 @@ use Rattle.mantissas.proofs.memos.count_slot.Tie as tie
 
 returns : tie.Need-returns
 returns c =
-    let t = c .before .before in
+    let t = c .before .before .before .before in
     let s = t .before .before .before in
     let p = s .args .p in (
       rw (← t .slot-pointers .ensures .0) (c .count-bins .ensures),
@@ -22,5 +22,7 @@ count-slot-spec =
     (tie.spec
     (λ c κs. search needs)  -- no-pointers-requires
     (λ c κs. let s = c .before .before in (rw (c .before .no-pointers .ensures), rw (c .before .no-pointers .ensures) (none-below 256), s .pre .0, s .pre .1, s .pre .2))  -- slot-pointers-requires
-    (λ c κs. let t = c .before in (t .before .before .before .pre .2 .end, t .slot-pointers .ensures .1))  -- count-bins-requires
+    (λ c. search needs)  -- cast-start
+    (λ c. search needs)  -- cast-end
+    (λ c κs. let t = c .before .before .before in (t .before .before .before .pre .2 .end, t .slot-pointers .ensures .1))  -- count-bins-requires
     returns)

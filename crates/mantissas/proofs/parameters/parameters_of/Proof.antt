@@ -9,10 +9,10 @@ use Rattle.mantissas.proofs.parameters.parameters_of.Tie as tie
 returns : tie.Need-returns
 returns c =
     let t8 = c .before in
-    let t7 = t8 .before .before in
+    let t7 = t8 .before .before .before in
     let t6 = t7 .before in
     let t5 = t6 .before in
-    let t4 = t5 .before .before in
+    let t4 = t5 .before .before .before .before in
     let t3 = t4 .before in
     let s = t3 .before .before .before .before in
     let sound = s .pre .1 .offsets in
@@ -39,12 +39,15 @@ parameters-of-spec =
     (λ c. search needs)  -- cast-at
     (λ c κs. search needs)  -- gains-of-requires
     (λ c κs. search needs)  -- deltas-of-requires
+    (λ c. search needs)  -- cast-start
+    (λ c. search needs)  -- cast-end
     (λ c κs. search needs)  -- leak-of-requires
     (λ c κs. search needs)  -- leak-of-requires-2
     (λ c κs. search needs)  -- db-knee-requires
+    (λ c. search needs)  -- cast-count
     (λ c. search needs)  -- element-copy-out-snr-offset
     (λ c κs.
-    let s = c .before .before .before .before .before .before .before .before .before .before in
+    let s = c .before .before .before .before .before .before .before .before .before .before .before .before .before in
     (s .pre .1 .offsets .csnroffst, s .pre .1 .offsets .fsnroffst (s .args .p .slot)))  -- snr-offset-requires
     (λ c κs. search needs)  -- floor-requires
     returns)

@@ -28,7 +28,7 @@ abbrev μ-loop : tie.MeasureT-loop
 again : tie.Need-loop-again Inv-loop μ-loop
 again c =
     let w = c .before .before in
-    let p = w .before .before in
+    let p = w .before .before .before .before in
     let test = p .before .before in
     let s = test .before .before in
     let at = test .before .loop in
@@ -53,9 +53,11 @@ walk-parts-spec =
     (λ c. search needs)  -- mul-p
     (λ c. search needs)  -- element-copy-out-p
     (λ c κs. let s = c .before .before .before in (s .pre .0, s .pre .1, s .pre .2 .each (c .before .before .loop .i)))  -- part-pointers-requires
+    (λ c. search needs)  -- cast-start
+    (λ c. search needs)  -- cast-end
     (λ c κs.
-    let at = c .before .before .before .before in
-    (no-more (at .loop .inv .1) (omega arith), (at .before .pre .2 .each (at .loop .i) .end, c .before .part-pointers .ensures .1)))  -- walk-bins-requires
+    let at = c .before .before .before .before .before .before in
+    (no-more (at .loop .inv .1) (omega arith), (at .before .pre .2 .each (at .loop .i) .end, c .before .before .before .part-pointers .ensures .1)))  -- walk-bins-requires
     (λ c. search needs)  -- add-i
     (λ c. search needs)  -- loop-less
     again

@@ -50,5 +50,6 @@ new-deltas-spec =
     (λ c. search needs)  -- add-seg
     (λ c. search needs)  -- loop-less
     again
+    (λ c. omega (arith, c .before .before .before .before .before .take .ensures .1))  -- cast-field
     (λ c. reads c .0 .long)  -- same-length
     reads)

@@ -77,6 +77,13 @@ relative-is z =
     ∙ +ℤ-negℤ-cancel (negℤ (z *ℤ pos 128)) (pos 3072)
     ∙ sym (+ℤ-idl (negℤ (z *ℤ pos 128)))
 
+-- how far it is below that of exponent 0
+pub drop-is : (z : ℤ) → negℤ (z *ℤ pos 128) ≡ relative z
+drop-is z = sym (relative-is z ∙ +ℤ-idl (negℤ (z *ℤ pos 128)))
+
+pub drop-below : (z : ℤ) → pos 0 ≤ℤ z → z ≤ℤ pos 24 → Below 13 (z *ℤ pos 128)
+drop-below z low high = let e = exponent-below z low high in search (bounds, below-128) depth 12
+
 pub relative-small : (z : ℤ) → pos 0 ≤ℤ z → z ≤ℤ pos 24 → Below 13 (relative z)
 relative-small z low high = let e = exponent-below z low high in below-is (relative-is z) (search (bounds, below-128) depth 12)
 

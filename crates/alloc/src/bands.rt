@@ -67,24 +67,38 @@ fn plus(adds: &[u8; 256], exponents: &[i16; 256], bin: usize, sum: i32) -> i32
     logadd(adds, sum, drop(exponents[bin]))
 }
 
-// The sum and three bins more: the bands from 28 on are threes, so that this saves most turns of the loop.
+// The sum and two bins more.
+fn plus_two(adds: &[u8; 256], exponents: &[i16; 256], bin: usize, sum: i32) -> i32
+    requires { ⌜ (now adds ≡ logAdd) × Exponents (now exponents) × (bin + 1 < 256) × Below 18 sum ⌝ }
+    ensures { λ r. ⌜ r ≡ logadd (logadd sum (relativeAt (now (exponents .entry)) bin)) (relativeAt (now (exponents .entry)) (bin + 1)) ⌝ }
+{
+    let one = plus(adds, exponents, bin, sum);
+    plus(adds, exponents, bin + 1, one)
+}
+
+// The sum and three bins more.
 fn plus_three(adds: &[u8; 256], exponents: &[i16; 256], bin: usize, sum: i32) -> i32
     requires { ⌜ (now adds ≡ logAdd) × Exponents (now exponents) × (bin + 2 < 256) × Below 17 sum ⌝ }
     ensures { λ r. ⌜ r ≡ logadd (logadd (logadd sum (relativeAt (now (exponents .entry)) bin)) (relativeAt (now (exponents .entry)) (bin + 1))) (relativeAt (now (exponents .entry)) (bin + 2)) ⌝ }
 {
-    let one = plus(adds, exponents, bin, sum);
-    let two = plus(adds, exponents, bin + 1, one);
+    let two = plus_two(adds, exponents, bin, sum);
     plus(adds, exponents, bin + 2, two)
 }
 
-// The levels of the bins from first up to last, added up.
+// The levels of the bins from first up to last, added up. The bands from 28 on are threes: two bins after the first, and then three in each turn.
+// What is left where a range cuts a band goes one by one.
 fn sum_levels(adds: &[u8; 256], exponents: &[i16; 256], first: usize, last: usize) -> i32
-    requires { ⌜ (now adds ≡ logAdd) × Exponents (now exponents) × (first < last) × (last ≤ 256) ⌝ }
+    requires { ⌜ (now adds ≡ logAdd) × Exponents (now exponents) × (0 < first) × (first < last) × (last ≤ 256) ⌝ }
     ensures { λ r. ⌜ r ≡ bandSum (psdAt (now (exponents .entry))) first (last - 1 - first) ⌝ }
 {
+    let threes = last - 2;
     let mut sum = relative(exponents[first]);
     let mut bin = first + 1;
-    while bin + 3 <= last {
+    if bin + 1 < last {
+        sum = plus_two(adds, exponents, bin, sum);
+        bin += 2;
+    }
+    while bin < threes {
         sum = plus_three(adds, exponents, bin, sum);
         bin += 3;
     }

@@ -1,12 +1,13 @@
 -- How far the definition's levels are from 0: bounds on the definition, which the loops' steps cite. Assumes nothing.
 use mathlib.Core.Path.{_≡_, refl, ap, sym, _∙_}
-use mathlib.Core.Bool.{not, _&&_}
+use mathlib.Core.Bool.{Bool, true, false, not, cond, _&&_}
 use mathlib.Core.List.{List}
-use Prim.Native.Nat.{ℕ, zero, suc, _+_, _*_, _/_, _^_, _≤_, _<_, min}
+use Prim.Native.Nat.{ℕ, zero, suc, _+_, _*_, _-_, _/_, _^_, _≤_, _<_, min, zero-le}
 use native.Mathlib.Omega.{arith}
 use native.Mathlib.Nat.{lt-of-lt-of-le, pow-succ'}
 use native.Mathlib.Numerals.{add-one}
-use lib.Dec.{T, leb, ltb, leb→le}
+use lib.Dec.{T, leb, ltb, leb→le, le→leb}
+use borrow.Author.Tests.{le-ltb}
 use lib.IntN.{ℤ, pos, negsuc, natAbs, negℤ, _+ℤ_, _-ℤ_, _*ℤ_, +ℤ-idl, +ℤ-comm, +ℤ-negℤ-cancel}
 use lib.Signed.{mag, ltZ, _≤ℤ_}
 use Rattle.signed.specs.Level.{maxZ, eqZ}
@@ -15,7 +16,7 @@ use Rattle.signed.proofs.Bounds.{bounds, mag-add, mag-cond, below-is, below-u16
 use Rattle.signed.proofs.Order.{plus-mono, plus-above}
 use Rattle.alloc.specs.Allocation.{at, psdOf, psdAt, logadd, lowcomp, bandSum, lfeLast, lowAfter, fallTo, overKnee, kept, threshold, deltaOf}
 use Rattle.alloc.specs.Sound.{Exponents}
-use Rattle.alloc.specs.Stages.{relative, relativeAt}
+use Rattle.alloc.specs.Stages.{Limit, relative, relativeAt}
 use Rattle.tables.proofs.Rule.{log-add-at-most}
 
 -- the sum is between the larger level and 64 more
@@ -57,12 +58,31 @@ pub level-below : (exponents : List ℤ) → Exponents exponents → (bin : ℕ)
 unfolding psdOf
 level-below exponents all bin = let e = exponent-below (at exponents bin) (all bin .0) (all bin .1) in search (bounds, below-128) depth 12
 
+less : (a b : ℕ) → b ≤ a → pos a -ℤ pos b ≡ pos (a - b)
+less a zero h = ap pos (omega arith)
+less a (suc b) h = rw (le-ltb a (suc b) h) (ap pos (omega arith))
+
+-- a level is between that of exponent 24 and that of exponent 0
+pub level-range : (exponents : List ℤ) → Exponents exponents → (bin : ℕ) → (pos 0 ≤ℤ psdAt exponents bin) × (psdAt exponents bin ≤ℤ pos 3072)
+unfolding psdOf
+level-range exponents all bin = let e = natural (at exponents bin) (all bin .0) (all bin .1) in rw (e .0) (ranged (natAbs (at exponents bin)) (e .1))
+  where
+    ranged : (k : ℕ) → k ≤ 24 → (pos 0 ≤ℤ (pos 3072 -ℤ pos k *ℤ pos 128)) × ((pos 3072 -ℤ pos k *ℤ pos 128) ≤ℤ pos 3072)
+    ranged k h = rw (less 3072 (k * 128) (omega arith)) (record { le = le→leb 0 (3072 - k * 128) zero-le }, record { le = le→leb (3072 - k * 128) 3072 (omega arith) })
+
 relative-is : (z : ℤ) → relative z ≡ pos 0 -ℤ z *ℤ pos 128
 unfolding relative psdOf
 relative-is z =
     ap (λ (y : ℤ). y -ℤ pos 3072) (+ℤ-comm (pos 3072) (negℤ (z *ℤ pos 128)))
     ∙ +ℤ-negℤ-cancel (negℤ (z *ℤ pos 128)) (pos 3072)
     ∙ sym (+ℤ-idl (negℤ (z *ℤ pos 128)))
+
+-- how far it is below that of exponent 0
+pub drop-is : (z : ℤ) → negℤ (z *ℤ pos 128) ≡ relative z
+drop-is z = sym (relative-is z ∙ +ℤ-idl (negℤ (z *ℤ pos 128)))
+
+pub drop-below : (z : ℤ) → pos 0 ≤ℤ z → z ≤ℤ pos 24 → Below 13 (z *ℤ pos 128)
+drop-below z low high = let e = exponent-below z low high in search (bounds, below-128) depth 12
 
 pub relative-small : (z : ℤ) → pos 0 ≤ℤ z → z ≤ℤ pos 24 → Below 13 (relative z)
 relative-small z low high = let e = exponent-below z low high in below-is (relative-is z) (search (bounds, below-128) depth 12)
@@ -98,9 +118,22 @@ kept-below : (z : ℤ) → Below 13 (kept z)
 unfolding kept
 kept-below z = record { below = omega arith }
 
-pub threshold-below : (mask snr floor : ℤ) → Below 11 floor → Below 14 (threshold mask snr floor)
+threshold-below : (mask snr floor : ℤ) → Below 11 floor → Below 14 (threshold mask snr floor)
 unfolding threshold
 threshold-below mask snr floor p = below-add {k = 14} (kept-below (maxZ (mask -ℤ snr -ℤ floor) (pos 0))) (below-more p tt) tt
+
+-- and is not below the lowest floor
+not-below : (t : Bool) (x y : ℕ) → x ≤ 2047 → negsuc 2047 ≤ℤ cond t (negsuc x) (pos y)
+not-below true x y h = record { le = le→leb x 2047 h }
+not-below false x y h = record { le = tt }
+
+raised : (k : ℕ) (floor : ℤ) → Below 11 floor → negsuc 2047 ≤ℤ (pos k +ℤ floor)
+raised k (pos f) p = record { le = tt }
+raised k (negsuc f) p = not-below (ltb k (suc f)) _ _ (omega (arith, p .below))
+
+pub threshold-limit : (mask snr floor : ℤ) → Below 11 floor → Limit (threshold mask snr floor)
+unfolding threshold kept
+threshold-limit mask snr floor p = record { below = threshold-below mask snr floor p; above = raised _ floor p }
 
 pub delta-of-below : (code : ℕ) → code < 256 → Below 16 (deltaOf code)
 unfolding deltaOf

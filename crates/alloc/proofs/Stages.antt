@@ -13,11 +13,11 @@ use Rattle.alloc.specs.Allocation.{from, psdAt, mappedPsd, bandSum, band
 use Rattle.alloc.specs.Sound.{Exponents}
 use Rattle.alloc.specs.Fills.{within}
 use Rattle.alloc.specs.Leaks.{exciteAt}
-use Rattle.alloc.specs.Stages.{bandsOf, thresholdsOf, thresholdAt, thresholdBy}
+use Rattle.alloc.specs.Stages.{Limit, bandsOf, thresholdsOf, thresholdAt, thresholdBy}
 use Rattle.alloc.specs.Band.{InBand}
 use Rattle.alloc.specs.declared.Parameters.{Parameters}
 use Rattle.alloc.proofs.BandEnds.{rising, start-mono, end-mono}
-use Rattle.alloc.proofs.Bounded.{band-below, level-below, threshold-below}
+use Rattle.alloc.proofs.Bounded.{band-below, level-below, threshold-limit}
 use Rattle.alloc.proofs.Filled.{filled-same, everywhere}
 use Rattle.alloc.proofs.Noted.{from-same, placed-in, noted-in, noted-is, excitation-at}
 
@@ -92,9 +92,9 @@ module _ (exponents : List ℤ) (p : Parameters) where
         ap₂ (λ (x y : ℤ). threshold (maskOf x (bandsOf exponents p band) (p .dbknee) (p .fscod) band +ℤ y) (p .snroffset) (p .floor)) e d
         ∙ sym threshold-is
 
-    -- a threshold has few bits, whatever the input
-    pub limit-below : Below 11 (p .floor) → Below 14 (thresholdsOf exponents p band)
-    limit-below h = rw threshold-is (threshold-below _ (p .snroffset) (p .floor) h)
+    -- a threshold is bounded, whatever the input
+    pub limited : Below 11 (p .floor) → Limit (thresholdsOf exponents p band)
+    limited h = rw threshold-is (threshold-limit _ (p .snroffset) (p .floor) h)
 
 -- the pointers by a table, bin by bin
 module _ (baps : List ℕ) (exponents : List ℤ) (p : Parameters) where

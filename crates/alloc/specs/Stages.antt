@@ -1,12 +1,13 @@
 -- The stages of the allocation under names of their own. No part of the definition: contracts cite it. Assumes nothing.
 use mathlib.Core.List.{List}
 use Prim.Native.Nat.{ℕ, _+_, _*_}
-use lib.IntN.{ℤ, pos, natAbs, _+ℤ_, _-ℤ_}
+use lib.IntN.{ℤ, pos, negsuc, _+ℤ_, _-ℤ_}
 use lib.ListN.{getD}
 use lib.Signed.{_≤ℤ_}
+use Rattle.signed.specs.Bound.{Below}
 use Rattle.signed.specs.Level.{maxZ}
 use Rattle.tables.specs.Tables.{hearing}
-use Rattle.alloc.specs.Allocation.{at, psdOf, overKnee, threshold, mappedPsd, integratedPsd, excitation, maskingCurve, deltaApplied, thresholds}
+use Rattle.alloc.specs.Allocation.{at, psdOf, psdAt, bandOf, addressOf, overKnee, threshold, mappedPsd, integratedPsd, excitation, maskingCurve, deltaApplied, thresholds}
 use Rattle.alloc.specs.declared.Parameters.{Parameters}
 
 -- what 6.2.2.2 to 6.2.2.7 leave in the mask
@@ -19,12 +20,17 @@ masksOf exponents p = maskingCurve p (bandsOf exponents p) (excitation p (bandsO
 abbrev pub thresholdsOf : List ℤ → Parameters → ℕ → ℤ
 thresholdsOf exponents p = thresholds p (deltaApplied p (masksOf exponents p))
 
-abbrev pub Address : ℤ → Type 0
-Address z = (pos 0 ≤ℤ z) × (z ≤ℤ pos 63)
+-- a threshold is not far below 0, whatever the input, so that an address fits a byte before it is clamped
+pub record Limit (z : ℤ) : Type 0 where
+  pub below : Below 14 z
+  pub above : negsuc 2047 ≤ℤ z
 
--- the pointer at a bin's address
-abbrev pub bapAt : (baps : List ℕ) → List ℤ → ℕ → ℕ
-bapAt baps addresses bin = getD baps (natAbs (at addresses bin)) 0
+-- the address of a bin, and the pointer at a bin's address
+abbrev pub addressAt : List ℤ → Parameters → ℕ → ℕ
+addressAt exponents p bin = addressOf (psdAt exponents bin) (thresholdsOf exponents p (bandOf bin))
+
+abbrev pub bapAt : (baps addresses : List ℕ) → ℕ → ℕ
+bapAt baps addresses bin = getD baps (getD addresses bin 0) 0
 
 -- a bin's psd less that of exponent 0: sums of these are the sums of psd less 3072 (`proofs/Sum`), and take fewer instructions
 unfoldable pub relative : ℤ → ℤ

@@ -1,11 +1,12 @@
 // 6.2.2.3: the psd of the bins of a band are added up.
+use crate::psd::drop;
 use crate::psd::level;
 use crate::psd::relative;
 use crate::wide;
 ghost use mathlib.Core.Bool.{_&&_};
 ghost use mathlib.Core.Path.{_≡_};
 ghost use Prim.Native.Nat.{_+_, _-_, _/_, _≤_, _<_};
-ghost use lib.IntN.{pos, natAbs, _+ℤ_};
+ghost use lib.IntN.{pos, natAbs, negℤ};
 ghost use lib.ListN.{length, getD};
 ghost use lib.Dec.{T};
 ghost use lib.Signed.{leZ, ltZ, nonNeg};
@@ -31,30 +32,31 @@ fn is_near(distance: i32) -> bool
     0 <= distance && distance < 512
 }
 
-// A level and what one that is less by the distance adds to it.
-fn louder(adds: &[u8; 256], level: i32, distance: i32) -> i32
-    requires { ⌜ (now adds ≡ logAdd) × Below 20 level × T (nonNeg distance) × (natAbs distance < 512) ⌝ }
-    ensures { λ r. ⌜ r ≡ level +ℤ pos (getD logAdd (natAbs distance / 2) 0) ⌝ }
+// What the table has at half a distance.
+fn added(adds: &[u8; 256], distance: i32) -> i32
+    requires { ⌜ (now adds ≡ logAdd) × T (nonNeg distance) × (natAbs distance < 512) ⌝ }
+    ensures { λ r. ⌜ (r ≡ pos (getD logAdd (natAbs distance / 2) 0)) × Below 8 r ⌝ }
 {
-    level + as_level(adds[distance as usize / 2])
+    as_level(adds[distance as usize / 2])
 }
 
-// The sum of two levels. Of two that are far apart it is the larger, without a look into the table.
-fn logadd(adds: &[u8; 256], a: i32, b: i32) -> i32
-    requires { ⌜ (now adds ≡ logAdd) × Below 20 a × Below 20 b ⌝ }
-    ensures { λ r. ⌜ r ≡ logadd a b ⌝ }
+// The sum of two levels, of which the second is given by how far it is below 0: so each arm is an addition or a subtraction of its own, and the
+// usual one takes the fewest instructions. Of two that are far apart it is the larger, without a look into the table.
+fn logadd(adds: &[u8; 256], sum: i32, drop: i32) -> i32
+    requires { ⌜ (now adds ≡ logAdd) × Below 20 sum × Below 20 drop ⌝ }
+    ensures { λ r. ⌜ r ≡ logadd sum (negℤ drop) ⌝ }
 {
-    let distance = a - b;
+    let distance = sum + drop;
     if is_near(distance) {
-        return louder(adds, a, distance);
+        return sum + added(adds, distance);
     }
     if 0 <= distance {
-        return a;
+        return sum;
     }
     if -512 < distance {
-        return louder(adds, b, 0 - distance);
+        return added(adds, 0 - distance) - drop;
     }
-    b
+    0 - drop
 }
 
 // The sum and one bin more.
@@ -62,27 +64,41 @@ fn plus(adds: &[u8; 256], exponents: &[i16; 256], bin: usize, sum: i32) -> i32
     requires { ⌜ (now adds ≡ logAdd) × Exponents (now exponents) × (bin < 256) × Below 20 sum ⌝ }
     ensures { λ r. ⌜ r ≡ logadd sum (relativeAt (now (exponents .entry)) bin) ⌝ }
 {
-    logadd(adds, sum, relative(exponents[bin]))
+    logadd(adds, sum, drop(exponents[bin]))
 }
 
-// The sum and three bins more: the bands from 28 on are threes, so that this saves most turns of the loop.
+// The sum and two bins more.
+fn plus_two(adds: &[u8; 256], exponents: &[i16; 256], bin: usize, sum: i32) -> i32
+    requires { ⌜ (now adds ≡ logAdd) × Exponents (now exponents) × (bin + 1 < 256) × Below 18 sum ⌝ }
+    ensures { λ r. ⌜ r ≡ logadd (logadd sum (relativeAt (now (exponents .entry)) bin)) (relativeAt (now (exponents .entry)) (bin + 1)) ⌝ }
+{
+    let one = plus(adds, exponents, bin, sum);
+    plus(adds, exponents, bin + 1, one)
+}
+
+// The sum and three bins more.
 fn plus_three(adds: &[u8; 256], exponents: &[i16; 256], bin: usize, sum: i32) -> i32
     requires { ⌜ (now adds ≡ logAdd) × Exponents (now exponents) × (bin + 2 < 256) × Below 17 sum ⌝ }
     ensures { λ r. ⌜ r ≡ logadd (logadd (logadd sum (relativeAt (now (exponents .entry)) bin)) (relativeAt (now (exponents .entry)) (bin + 1))) (relativeAt (now (exponents .entry)) (bin + 2)) ⌝ }
 {
-    let one = plus(adds, exponents, bin, sum);
-    let two = plus(adds, exponents, bin + 1, one);
+    let two = plus_two(adds, exponents, bin, sum);
     plus(adds, exponents, bin + 2, two)
 }
 
-// The levels of the bins from first up to last, added up.
+// The levels of the bins from first up to last, added up. The bands from 28 on are threes: two bins after the first, and then three in each turn.
+// What is left where a range cuts a band goes one by one.
 fn sum_levels(adds: &[u8; 256], exponents: &[i16; 256], first: usize, last: usize) -> i32
-    requires { ⌜ (now adds ≡ logAdd) × Exponents (now exponents) × (first < last) × (last ≤ 256) ⌝ }
+    requires { ⌜ (now adds ≡ logAdd) × Exponents (now exponents) × (0 < first) × (first < last) × (last ≤ 256) ⌝ }
     ensures { λ r. ⌜ r ≡ bandSum (psdAt (now (exponents .entry))) first (last - 1 - first) ⌝ }
 {
+    let threes = last - 2;
     let mut sum = relative(exponents[first]);
     let mut bin = first + 1;
-    while bin + 3 <= last {
+    if bin + 1 < last {
+        sum = plus_two(adds, exponents, bin, sum);
+        bin += 2;
+    }
+    while bin < threes {
         sum = plus_three(adds, exponents, bin, sum);
         bin += 3;
     }

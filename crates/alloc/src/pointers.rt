@@ -3,18 +3,17 @@ use crate::mask::mask_of;
 use crate::no_bands;
 use crate::psd::level;
 use crate::wide;
-ghost use mathlib.Core.Bool.{cond};
 ghost use mathlib.Core.Path.{_≡_};
-ghost use Prim.Native.Nat.{ℕ, _+_, _≤_, _<_};
+ghost use Prim.Native.Nat.{ℕ, _+_, _≤_, _<_, min};
 ghost use lib.IntN.{pos};
-ghost use lib.ListN.{length, replicate};
-ghost use lib.Signed.{ltZ};
+ghost use lib.ListN.{length, getD, replicate};
+ghost use lib.Signed.{_≤ℤ_};
 ghost use Rattle.signed.specs.Bound.{Below};
 ghost use Rattle.tables.specs.Tables.{bandEnd, hearing};
 ghost use Rattle.alloc.specs.Allocation.{at, psdAt, bandOf, startOf, endOf, threshold, addressOf};
 ghost use Rattle.alloc.specs.Sound.{Exponents};
 ghost use Rattle.alloc.specs.Fills.{within, Fills};
-ghost use Rattle.alloc.specs.Stages.{Address, bapAt, thresholdAt, thresholdBy};
+ghost use Rattle.alloc.specs.Stages.{Limit, bapAt, thresholdAt, thresholdBy};
 
 // The level above which the bins of a band get bits.
 fn threshold(mask: i32, snroffset: i32, floor: i32) -> i32
@@ -125,27 +124,34 @@ pub fn by_bin(out: &mut [i32; 256], ends: &[u8; 50], thresholds: &[i32; 50], las
     spread(&mut *out, ends, thresholds, 45, 50, 24);
 }
 
-fn at_most_63(x: i32) -> i32
-    ensures { λ r. ⌜ r ≡ cond (ltZ (pos 63) x) (pos 63) x ⌝ }
+fn at_most_63(x: u8) -> u8
+    ensures { λ r. ⌜ r ≡ min x 63 ⌝ }
 {
     if 63 < x { 63 } else { x }
 }
 
-// The address of a bin: its level minus the mask, in steps of 32, and then clamped.
-fn address(psd: i32, mask: i32) -> i32
-    requires { ⌜ Below 13 psd × Below 14 mask ⌝ }
-    ensures { λ r. ⌜ r ≡ pos (addressOf psd mask) ⌝ }
+// The address of a bin: its level minus the mask, in steps of 32, and then clamped. What is not below 0 is at most 191, and goes on as a byte,
+// so that the processor takes several bins at once.
+fn address(psd: i32, mask: i32) -> u8
+    requires { ⌜ (pos 0 ≤ℤ psd) × (psd ≤ℤ pos 3072) × Limit mask ⌝ }
+    ensures { λ r. ⌜ r ≡ addressOf psd mask ⌝ }
 {
-    at_most_63(signed::max((psd - mask) >> 5, 0))
+    at_most_63(signed::max((psd - mask) >> 5, 0) as u8)
 }
 
 // From the thresholds of the bins to their addresses.
-pub fn addresses(masks: &mut [i32; 256], exponents: &[i16; 256], start: usize, end: usize)
-    requires { ⌜ (length (now masks) ≡ 256) × (start ≤ end) × (end ≤ 256) × Exponents (now exponents) × ((bin : ℕ) → start ≤ bin → bin < end → Below 14 (at (now masks) bin)) ⌝ }
-    ensures { λ _. ⌜ Fills (pos 0) start end (λ bin. pos (addressOf (psdAt (now (exponents .entry)) bin) (at (now (masks .entry)) bin))) (now (masks .entry)) (now (masks .exit)) ⌝ }
+pub fn addresses(
+    out: &mut [u8; 256],
+    masks: &[i32; 256],
+    exponents: &[i16; 256],
+    start: usize,
+    end: usize,
+)
+    requires { ⌜ (length (now out) ≡ 256) × (start ≤ end) × (end ≤ 256) × Exponents (now exponents) × ((bin : ℕ) → start ≤ bin → bin < end → Limit (at (now masks) bin)) ⌝ }
+    ensures { λ _. ⌜ Fills 0 start end (λ bin. addressOf (psdAt (now (exponents .entry)) bin) (at (now (masks .entry)) bin)) (now (out .entry)) (now (out .exit)) ⌝ }
 {
     for bin in start..end {
-        masks[bin] = address(level(exponents[bin]), masks[bin]);
+        out[bin] = address(level(exponents[bin]), masks[bin]);
     }
 }
 
@@ -159,11 +165,11 @@ pub fn no_bins() -> [i32; 256]
 pub fn pointers(
     out: &mut [u8; 256],
     baps: &[u8; 64],
-    addresses: &[i32; 256],
+    addresses: &[u8; 256],
     start: usize,
     end: usize,
 )
-    requires { ⌜ (length (now out) ≡ 256) × (start ≤ end) × (end ≤ 256) × ((bin : ℕ) → start ≤ bin → bin < end → Address (at (now addresses) bin)) ⌝ }
+    requires { ⌜ (length (now out) ≡ 256) × (start ≤ end) × (end ≤ 256) × ((bin : ℕ) → start ≤ bin → bin < end → getD (now addresses) bin 0 < 64) ⌝ }
     ensures { λ _. ⌜ Fills 0 start end (bapAt (now (baps .entry)) (now (addresses .entry))) (now (out .entry)) (now (out .exit)) ⌝ }
 {
     for bin in start..end {

@@ -1,12 +1,12 @@
 // Mantissas counted (6.3.5): from the counts follow the bits that all of them take.
 use crate::Counts;
 ghost use mathlib.Core.Path.{_≡_};
-ghost use Prim.Native.Nat.{_*_, _<_, _≤_};
-ghost use Rattle.tables.specs.Tables.{mantissaBits};
+ghost use Prim.Native.Nat.{ℕ, _-_, _*_, _<_, _≤_};
+ghost use lib.ListN.{getD};
+ghost use Rattle.tables.specs.Tables.{bap, mantissaBits};
 ghost use Rattle.alloc.specs.Allocation.{from};
-ghost use Rattle.slots.specs.Sound.{Entries};
+ghost use Rattle.alloc.specs.Stages.{bapAt};
 ghost use Rattle.mantissas.specs.Counts.{isPointer, noCounts, counted, countedAll, plus, widthOf, AtMost, packed};
-ghost use Rattle.mantissas.specs.Sound.{between};
 
 // Nothing counted, and no group open: so each block begins.
 pub const NO_COUNTS: Counts = Counts {
@@ -49,16 +49,17 @@ pub fn weights() -> [u64; 16]
     ]
 }
 
-// The mantissas of some bins.
-pub fn count_bins(pointers: &[u8; 256], start: usize, end: usize) -> Counts
-    requires { ⌜ (end ≤ 253) × Entries (now pointers) 16 ⌝ }
-    ensures { λ r. ⌜ r ≡ countedAll noCounts (between 0 (now (pointers .entry)) start end) ⌝ }
+// The mantissas of some bins, by their addresses (6.2.2.7).
+pub fn count_bins(addresses: &[u8; 256], start: usize, end: usize) -> Counts
+    requires { ⌜ (end ≤ 253) × ((bin : ℕ) → start ≤ bin → bin < end → getD (now addresses) bin 0 < 64) ⌝ }
+    ensures { λ r. ⌜ r ≡ countedAll noCounts (from start (end - start) (bapAt bap (now (addresses .entry)))) ⌝ }
 {
+    let baps = tables::bit_allocation_pointers();
     let weights = weights();
     let mut total = 0u64;
     for bin in start..end {
-        let bap = pointers[bin] as usize;
-        total += weights[bap];
+        let pointer = baps[addresses[bin] as usize] as usize;
+        total += weights[pointer];
     }
     Counts {
         bits: (total % ONE) as u32,

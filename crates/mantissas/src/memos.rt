@@ -8,8 +8,8 @@ use crate::counting::add;
 use crate::counting::count_bins;
 use crate::counting::width_of;
 use crate::parameters::deltas_of;
-use crate::pointers::no_pointers;
-use crate::pointers::slot_pointers;
+use crate::parameters::parameters_of;
+use crate::pointers::zeros;
 use slots::AllocState;
 use slots::CPL;
 use slots::LFE;
@@ -131,15 +131,16 @@ pub struct Taken {
     pub bits: [u16; 7],
 }
 
-// The mantissas of a slot, counted.
+// The mantissas of a slot, counted by the addresses of its bins: no array of pointers is made.
 fn count_slot(by: Setting, exps: &[[i16; 256]; 7], p: Part) -> Counts
     requires { ⌜ SoundSetting by × SoundExps (now exps) × SoundPart p ⌝ }
     ensures { λ r. ⌜ r ≡ countedAll noCounts (grammar.pointers (by .fscod) (by .st) (now (exps .entry)) p) ⌝ }
     ensures { λ r. ⌜ AtMost 253 r ⌝ }
 {
-    let mut pointers = no_pointers();
-    slot_pointers(&mut pointers, by, exps, p);
-    count_bins(&pointers, p.start as usize, p.end as usize)
+    let at = p.slot as usize;
+    let mut addresses = zeros();
+    alloc::addresses_of(&mut addresses, &exps[at], parameters_of(by.fscod, by.st, p));
+    count_bins(&addresses, p.start as usize, p.end as usize)
 }
 
 // The same, counted only where what was kept was counted from something else.

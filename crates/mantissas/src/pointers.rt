@@ -9,7 +9,7 @@ ghost use Rattle.mantissas.specs.Mantissas as grammar;
 ghost use Rattle.mantissas.specs.Mantissas.{partPointers};
 ghost use Rattle.mantissas.specs.Sound.{SoundSetting, SoundPart, between};
 
-pub fn no_pointers() -> [u8; 256]
+pub fn zeros() -> [u8; 256]
     ensures { λ r. ⌜ r ≡ replicate 256 0 ⌝ }
 {
     [0u8; 256]
@@ -31,7 +31,7 @@ pub fn part_pointers(by: Setting, exps: &[[i16; 256]; 7], p: Part) -> [u8; 256]
     ensures { λ r. ⌜ between 0 r (p .start) (p .end) ≡ partPointers (by .fscod) (by .st) (now (exps .entry)) (by .silent) p ⌝ }
     ensures { λ r. ⌜ Entries r 16 ⌝ }
 {
-    let mut pointers = no_pointers();
+    let mut pointers = zeros();
     if by.silent {
         return pointers;
     }

@@ -3,9 +3,10 @@ use mathlib.Core.Path.{_≡_, _∙_, ap₂}
 use Prim.Native.Nat.{ℕ, _-_, min, max}
 use native.Mathlib.Omega.{arith}
 use borrow.Author.Needs.{needs}
+use lib.Dec.{lit≤}
 use Rattle.signed.proofs.Bounds.{back-32}
 use Rattle.alloc.specs.Allocation.{psdAt, startOf, endOf, bandSum, bandPsd}
-use Rattle.alloc.proofs.BandEnds.{rising, end-at, start-at}
+use Rattle.alloc.proofs.BandEnds.{rising, narrow, start-mono, end-at, start-at}
 use Rattle.alloc.proofs.bands.band_level.Statement.{statement}
 use Rattle.alloc.proofs.bands.band_level.Tie as tie
 
@@ -41,7 +42,8 @@ band-level-spec =
     let first = first-is c in
     let last = last-is c in
     let wide = rising (s .args .band) (omega arith) in
-    (s .pre .0, s .pre .2, omega arith, omega arith))
+    let after = start-mono 1 (s .args .band) (omega arith) (omega arith) in
+    (s .pre .0, s .pre .2, omega (arith, after, narrow 1 (lit≤ tt) .0), omega arith, omega arith))
     (λ c.
     let level = psdAt (start (c .before) .args .exponents .now) in
     back-32 _ (c .sum-levels .ok) ∙ c .sum-levels .ensures ∙ ap₂ (λ (first last : ℕ). bandSum level first (last - 1 - first)) (first-is (c .before)) (last-is (c .before))))

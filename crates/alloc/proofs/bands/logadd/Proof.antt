@@ -1,35 +1,54 @@
 -- `alloc::bands::logadd` meets its contract: the sign of the difference says which is the larger, and its size whether the table has
 -- anything to add. Assumes nothing.
-use mathlib.Core.Path.{_≡_, _∙_, sym}
+use mathlib.Core.Path.{_≡_, _∙_, ap, sym}
 use mathlib.Core.Bool.{not}
-use Prim.Native.Nat.{_≤_, _<_}
+use Prim.Native.Nat.{_/_, _≤_, _<_}
 use borrow.Author.Needs.{needs}
 use lib.Dec.{T}
-use lib.IntN.{ℤ, pos, natAbs, _-ℤ_}
+use lib.IntN.{ℤ, pos, natAbs, negℤ, _+ℤ_, _-ℤ_, negℤ-negℤ, +ℤ-comm, +ℤ-idl}
+use lib.ListN.{getD}
 use lib.Signed.{nonNeg}
 use mir.Syntax.{w32}
 use mir.Val.{toZ, ofZ}
 use mir.ValLaws.{toZ-ofZ}
-use Rattle.signed.proofs.Bounds.{bounds, levels, back-32, below-read}
+use Rattle.signed.specs.Bound.{Below}
+use Rattle.signed.proofs.Bounds.{bounds, levels, back-32, below-add, below-is, below-read}
+use Rattle.tables.specs.Tables.{logAdd}
 use Rattle.alloc.proofs.Sum.{near, far, larger-first, larger-second, near-test, far-test, below-test, near-below-test, far-below-test, opposite}
 use Rattle.alloc.proofs.bands.logadd.Statement.{statement}
 use Rattle.alloc.proofs.bands.logadd.Tie as tie
 
 module _ (s : tie.Start) where
+  abbrev a : ℤ
+  a = s .args .sum
+
+  abbrev b : ℤ
+  b = negℤ (s .args .drop)
+
   abbrev apart : ℤ
-  apart = s .args .a -ℤ s .args .b
+  apart = a -ℤ b
 
-  a-is : toZ w32 (ofZ w32 (s .args .a)) ≡ s .args .a
-  a-is = toZ-ofZ w32 (s .args .a) (s .fits .a)
+  a-is : toZ w32 (ofZ w32 (s .args .sum)) ≡ a
+  a-is = toZ-ofZ w32 (s .args .sum) (s .fits .sum)
 
-  b-is : toZ w32 (ofZ w32 (s .args .b)) ≡ s .args .b
-  b-is = toZ-ofZ w32 (s .args .b) (s .fits .b)
+  drop-is : toZ w32 (ofZ w32 (s .args .drop)) ≡ s .args .drop
+  drop-is = toZ-ofZ w32 (s .args .drop) (s .fits .drop)
 
-  distance-is : toZ w32 (ofZ w32 (toZ w32 (ofZ w32 (s .args .a)) -ℤ toZ w32 (ofZ w32 (s .args .b)))) ≡ apart
-  distance-is = search levels depth 12
+  apart-is : a +ℤ s .args .drop ≡ apart
+  apart-is = ap (λ (z : ℤ). a +ℤ z) (sym (negℤ-negℤ (s .args .drop)))
 
-  opposite-is : T (not (nonNeg apart)) → toZ w32 (ofZ w32 (pos 0 -ℤ toZ w32 (ofZ w32 (toZ w32 (ofZ w32 (s .args .a)) -ℤ toZ w32 (ofZ w32 (s .args .b)))))) ≡ pos (natAbs apart)
-  opposite-is t = search levels depth 12 ∙ opposite apart t
+  distance-is : toZ w32 (ofZ w32 (toZ w32 (ofZ w32 (s .args .sum)) +ℤ toZ w32 (ofZ w32 (s .args .drop)))) ≡ apart
+  distance-is = search levels depth 12 ∙ apart-is
+
+  apart-small : Below 21 apart
+  apart-small = below-is (sym apart-is) (below-add (s .pre .1) (s .pre .2) tt)
+
+  opposite-is : T (not (nonNeg apart)) → toZ w32 (ofZ w32 (pos 0 -ℤ toZ w32 (ofZ w32 (toZ w32 (ofZ w32 (s .args .sum)) +ℤ toZ w32 (ofZ w32 (s .args .drop)))))) ≡ pos (natAbs apart)
+  opposite-is t = rw distance-is (let h = apart-small in search levels depth 12 ∙ opposite apart t)
+
+-- what the table has at half of a distance
+abbrev entry : ℤ → ℤ
+entry z = pos (getD logAdd (natAbs z / 2) 0)
 
 -- what the tests tell
 near-first : (c : tie.Then1) → T (nonNeg (apart (c .before .before))) × (natAbs (apart (c .before .before)) < 512)
@@ -59,22 +78,31 @@ logadd-spec =
     (tie.spec
     (λ c. search bounds depth 12)
     (λ c κs. search needs)
-    (λ c κs. let s = c .before .before in (s .pre .0, below-read (s .pre .1), rw (distance-is s) (near-first c .0), rw (distance-is s) (near-first c .1)))
+    (λ c κs. let s = c .before .before in (s .pre .0, rw (distance-is s) (near-first c .0), rw (distance-is s) (near-first c .1)))
+    (λ c. let more = c .added .ensures .1 in search bounds depth 12)
     (λ c.
     let s = c .before .before .before in
     let t = near-first (c .before) in
-    back-32 _ (c .louder .ok) ∙ c .louder .ensures ∙ rw (distance-is s, a-is s) (near (s .args .a) (s .args .b) (s .args .a) (larger-first (s .args .a) (s .args .b) (t .0)) (t .1)))
+    let more = c .added .ensures .1 in
+    let plain : toZ w32 (ofZ w32 (toZ w32 (ofZ w32 (s .args .sum)) +ℤ toZ w32 (ofZ w32 (c .added .result)))) ≡ s .args .sum +ℤ c .added .result = search levels depth 12 in
+    plain ∙ ap (λ (z : ℤ). s .args .sum +ℤ z) (c .added .ensures .0 ∙ ap entry (distance-is s)) ∙ near (a s) (b s) (a s) (larger-first (a s) (b s) (t .0)) (t .1))
     (λ c.
     let s = c .before .before .before in
     let t = far-first c in
-    a-is s ∙ far (s .args .a) (s .args .b) (s .args .a) (larger-first (s .args .a) (s .args .b) (t .0)) (t .1))
+    a-is s ∙ far (a s) (b s) (a s) (larger-first (a s) (b s) (t .0)) (t .1))
     (λ c. search bounds depth 12)
-    (λ c κs. let s = c .before .before .before .before in (s .pre .0, below-read (s .pre .2), rw (opposite-is s (less (c .before))) tt, rw (opposite-is s (less (c .before))) (near-second c)))
+    (λ c κs. let s = c .before .before .before .before in (s .pre .0, rw (opposite-is s (less (c .before))) tt, rw (opposite-is s (less (c .before))) (near-second c)))
+    (λ c. let more = c .added2 .ensures .1 in search bounds depth 12)
     (λ c.
     let s = c .before .before .before .before .before in
     let t = less (c .before .before) in
-    back-32 _ (c .louder2 .ok) ∙ c .louder2 .ensures
-    ∙ rw (opposite-is s t, b-is s) (near (s .args .a) (s .args .b) (s .args .b) (larger-second (s .args .a) (s .args .b) t) (near-second (c .before))))
+    let more = c .added2 .ensures .1 in
+    let plain : toZ w32 (ofZ w32 (toZ w32 (ofZ w32 (c .added2 .result)) -ℤ toZ w32 (ofZ w32 (s .args .drop)))) ≡ c .added2 .result -ℤ s .args .drop = search levels depth 12 in
+    plain ∙ ap (λ (z : ℤ). z -ℤ s .args .drop) (c .added2 .ensures .0 ∙ ap entry (opposite-is s t))
+    ∙ +ℤ-comm (entry (apart s)) (b s)
+    ∙ near (a s) (b s) (b s) (larger-second (a s) (b s) t) (near-second (c .before)))
+    (λ c. search bounds depth 12)
     (λ c.
     let s = c .before .before .before .before in
-    b-is s ∙ far (s .args .a) (s .args .b) (s .args .b) (larger-second (s .args .a) (s .args .b) (less (c .before))) (far-second c)))
+    let plain : toZ w32 (ofZ w32 (pos 0 -ℤ toZ w32 (ofZ w32 (s .args .drop)))) ≡ pos 0 -ℤ s .args .drop = search levels depth 12 in
+    plain ∙ +ℤ-idl (b s) ∙ far (a s) (b s) (b s) (larger-second (a s) (b s) (less (c .before))) (far-second c)))

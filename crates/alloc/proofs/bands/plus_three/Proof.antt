@@ -30,11 +30,8 @@ module _ (s : tie.Start) where
   first-small : Below 18 first
   first-small = logadd-below {k = 17} (s .pre .3) (below-more (relative-below (s .args .exponents .now) (s .pre .1) (s .args .bin)) tt) tt
 
-first-is : (c : tie.After-plus) → toZ w32 (ofZ w32 (c .plus .result)) ≡ first (c .before)
-first-is c = back-32 _ (c .plus .ok) ∙ c .plus .ensures ∙ rw (toZ-ofZ w32 (c .before .args .sum) (c .before .fits .sum))
-
-second-is : (c : tie.After-plus2) → toZ w32 (ofZ w32 (c .plus2 .result)) ≡ logadd (first (c .before .before)) (bin (c .before .before) 1)
-second-is c = back-32 _ (c .plus2 .ok) ∙ c .plus2 .ensures ∙ rw (first-is (c .before))
+two-is : (c : tie.After-plus-two) → toZ w32 (ofZ w32 (c .plus-two .result)) ≡ logadd (first (c .before)) (bin (c .before) 1)
+two-is c = back-32 _ (c .plus-two .ok) ∙ c .plus-two .ensures ∙ rw (toZ-ofZ w32 (c .before .args .sum) (c .before .fits .sum))
 
 pub plus-three-spec : {M : Type 1} → statement M
 plus-three-spec =
@@ -42,9 +39,7 @@ plus-three-spec =
     (tie.spec
     (λ c κs. (c .pre .0, c .pre .1, omega arith, below-read (below-more (c .pre .3) tt)))
     (λ c. search needs)
-    (λ c κs. let s = c .before in (s .pre .0, s .pre .1, omega arith, below-is (first-is c) (below-more (first-small s) tt)))
-    (λ c. search needs)
     (λ c κs.
-    let s = c .before .before in
-    (s .pre .0, s .pre .1, omega arith, below-is (second-is c) (below-more (logadd-below {k = 18} (first-small s) (bin-small s 1 tt) tt) tt)))
-    (λ c. back-32 _ (c .plus3 .ok) ∙ c .plus3 .ensures ∙ rw (second-is (c .before))))
+    let s = c .before in
+    (s .pre .0, s .pre .1, omega arith, below-is (two-is c) (below-more (logadd-below {k = 18} (first-small s) (bin-small s 1 tt) tt) tt)))
+    (λ c. back-32 _ (c .plus .ok) ∙ c .plus .ensures ∙ rw (two-is (c .before))))

@@ -10,16 +10,16 @@ use mir.Val.{toZ, ofZ}
 use Rattle.signed.proofs.Bounds.{back-16, back-32}
 use Rattle.alloc.specs.Allocation.{at, psdOf, psdAt, addressOf}
 use Rattle.alloc.specs.Fills.{Fills}
-use Rattle.alloc.proofs.Bounded.{level-below}
-use Rattle.alloc.proofs.Filled.{fills-none, fills-set, fills-rest}
+use Rattle.alloc.proofs.Bounded.{level-range}
+use Rattle.alloc.proofs.Filled.{fills-none, fills-set}
 use Rattle.alloc.proofs.pointers.addresses.Statement.{statement}
 use Rattle.alloc.proofs.pointers.addresses.Tie as tie
 
 abbrev Inv-loop : tie.InvT-loop
-Inv-loop masks₀ exponents start end bin₀ masks bin = (start ≤ bin) × (bin ≤ end) × Fills (pos 0) start bin (λ k. pos (addressOf (psdAt exponents k) (at masks₀ k))) masks₀ masks
+Inv-loop out₀ masks exponents start end bin₀ out bin = (start ≤ bin) × (bin ≤ end) × Fills 0 start bin (λ k. addressOf (psdAt exponents k) (at masks k)) out₀ out
 
 abbrev μ-loop : tie.MeasureT-loop
-μ-loop masks₀ exponents start end bin₀ masks bin = end - bin
+μ-loop out₀ masks exponents start end bin₀ out bin = end - bin
 
 -- the bin's level and mask, as they are read back
 module _ (c : tie.After-address-arg Inv-loop μ-loop) where
@@ -32,8 +32,8 @@ module _ (c : tie.After-address-arg Inv-loop μ-loop) where
   level-is : toZ w32 (ofZ w32 (c .before .level .result)) ≡ psdAt (begin .args .exponents .now) bin
   level-is = back-32 _ (c .before .level .ok) ∙ c .before .level .ensures ∙ ap psdOf (back-16 _ (c .before .before .level-arg .given))
 
-  mask-is : toZ w32 (ofZ w32 (getD (c .before .before .before .before .loop .masks) bin (pos 0))) ≡ at (begin .args .masks .now) bin
-  mask-is = back-32 _ (c .address-arg .given) ∙ fills-rest _ _ _ _ (c .before .before .before .before .loop .inv .2) bin (omega arith)
+  mask-is : toZ w32 (ofZ w32 (getD (begin .args .masks .now) bin (pos 0))) ≡ at (begin .args .masks .now) bin
+  mask-is = back-32 _ (c .address-arg .given)
 
 pub addresses-spec : {M : Type 1} → statement M
 addresses-spec =
@@ -49,13 +49,13 @@ addresses-spec =
     (λ c. search needs)
     (λ c κs.
     let s = begin c in
-    (rw (level-is c) (level-below (s .args .exponents .now) (s .pre .3) (bin c)), rw (mask-is c) (s .pre .4 (bin c) (omega arith) (omega arith))))
-    (λ c. search needs)
+    let range = level-range (s .args .exponents .now) (s .pre .3) (bin c) in
+    (rw (level-is c) (range .0), rw (level-is c) (range .1), rw (mask-is c) (s .pre .4 (bin c) (omega arith) (omega arith))))
     (λ c. search needs)
     (λ c. search needs)
     (λ c. search needs)
     (λ c.
     let at = c .before .before .before .before .before .loop in
-    let stored = back-32 _ (c .address .ok) ∙ c .address .ensures ∙ ap pos (ap₂ addressOf (level-is (c .before)) (mask-is (c .before))) in
-    (search needs, search needs, fills-set _ _ _ _ (at .masks) (at .bin) _ (omega arith) (omega (arith, at .inv .2 .long)) stored (at .inv .2)))
+    let stored = c .address .ensures ∙ ap₂ addressOf (level-is (c .before)) (mask-is (c .before)) in
+    (search needs, search needs, fills-set _ _ _ _ (at .out) (at .bin) _ (omega arith) (omega (arith, at .inv .2 .long)) stored (at .inv .2)))
     (λ c. let end : c .before .loop .bin ≡ c .before .before .args .end = omega arith in rw end at (c .before .loop .inv .2)))

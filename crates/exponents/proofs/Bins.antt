@@ -54,11 +54,11 @@ within slot strategy start end h i k = go (eqb slot CPL) (eqb slot LFE) (binsEac
 pub group-fits : (first n count width : ℕ) → n < count → first + count * width ≤ 256 → first + n * width + width ≤ 256
 group-fits first n count width h k = omega (arith, mul-le-mul-right width h, suc-mul n width)
 
--- and has a number that a byte can hold
-pub group-numbered : (first n strategy : ℕ) → strategy < 4 → first + n * (3 * binsEach strategy) + 3 * binsEach strategy ≤ 256 → n < 256
+-- and has a number below 255, which stands for no part
+pub group-numbered : (first n strategy : ℕ) → strategy < 4 → first + n * (3 * binsEach strategy) + 3 * binsEach strategy ≤ 256 → n < 255
 group-numbered first n strategy h k = go (binsEach strategy) (one-two-four strategy h) k
   where
-    go : (b : ℕ) → OneTwoFour b → first + n * (3 * b) + 3 * b ≤ 256 → n < 256
+    go : (b : ℕ) → OneTwoFour b → first + n * (3 * b) + 3 * b ≤ 256 → n < 255
     go b (inl e) k = let all = rw e at k in omega (arith, all)
     go b (inr (inl e)) k = let all = rw e at k in omega (arith, all)
     go b (inr (inr e)) k = let all = rw e at k in omega (arith, all)

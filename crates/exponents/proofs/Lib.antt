@@ -2,5 +2,5 @@ pub mod Kept
 pub mod Bins
 pub mod AtHand
 pub mod Three
-pub mod Judged
+pub mod Made
 pub mod Examples

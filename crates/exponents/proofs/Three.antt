@@ -1,14 +1,17 @@
 -- The three steps of a group, refused as one; and three exponents in one number, a byte for each with 64 added. Assumes nothing.
 use mathlib.Core.Bool.{Bool, true, false, _||_, true≢false}
+use mathlib.Core.List.{List}
 use mathlib.Core.Path.{_≡_, refl, sym, _∙_}
 use Prim.Native.Nat.{ℕ, _+_, _-_, _*_, _/_, _%_, _<_, _≤_}
 use native.Mathlib.Omega.{arith}
 use lib.Dec.{ltb}
-use borrow.Author.Tests.{le-ltb}
+use lib.ListN.{getD}
+use borrow.Author.Tests.{le-ltb, ltb-true, ltb-false}
 use Rattle.syntax.specs.Refusals.{badExponent}
-use Rattle.syntax.specs.Grammar.{Grammar, done, _>>=_, _>>_, refuseIf}
-use Rattle.exponents.specs.Bytes.{Inside, Near, NearThree, ThreeInside}
-use Rattle.exponents.specs.Exponents.{step}
+use Rattle.syntax.specs.Grammar.{Grammar, done, refuse, _>>=_, _>>_, refuseIf}
+use Rattle.exponents.specs.Bytes.{Steps, Inside, Near, NearThree, ThreeInside}
+use Rattle.exponents.specs.Exponents.{step, unpack}
+use Rattle.exponents.specs.Made.{fault}
 use Rattle.exponents.proofs.Bins.{inside}
 
 -- ---- the bytes of a number
@@ -22,16 +25,6 @@ module _ (a b c : ℕ) (a-fits : a < 256) (b-fits : b < 256) where
 
   third-byte : (a + 256 * b + 65536 * c) / 65536 ≡ c
   third-byte = omega arith
-
--- the five bits that an exponent takes
-first-bits : (three : ℕ) → three % 32 ≡ three % 256 % 32
-first-bits three = omega arith
-
-second-bits : (three : ℕ) → three / 256 % 32 ≡ three / 256 % 256 % 32
-second-bits three = omega arith
-
-low-bits : (byte e : ℕ) → byte ≡ 64 + e → e < 32 → byte % 32 ≡ e
-low-bits byte e is h = rw is (omega arith)
 
 -- ---- the exponents of a group: `last` is the one before it, and d, e and f are the differences
 
@@ -93,8 +86,9 @@ module _ (last d e f : ℕ) where
     pub near : NearThree three
     pub good : NoneOut → ThreeInside three
     pub each : ThreeInside three → NoneOut
-    pub are : ThreeInside three → (three % 32 ≡ x - 2) × (three / 256 % 32 ≡ y - 2) × (three / 65536 % 32 ≡ z - 2)
-    pub low : ThreeInside three → (three % 32 < 25) × ((three / 256 % 32 < 25) × (three / 65536 % 32 < 25))
+    pub enough : ThreeInside three → 64 * 65793 ≤ three
+    pub are : ThreeInside three → ((three - 64 * 65793) % 256 ≡ x - 2) × ((three - 64 * 65793) / 256 % 256 ≡ y - 2) × ((three - 64 * 65793) / 65536 ≡ z - 2)
+    pub low : ThreeInside three → (x - 2 < 25) × ((y - 2 < 25) × (z - 2 < 25))
 
   module _ (l : last < 32) (ds : d < 5) (es : e < 5) (fs : f < 5) where
     abbrev three : ℕ
@@ -119,17 +113,17 @@ module _ (last d e f : ℕ) where
       fits : Fits x × Fits y × Fits z
       fits = fit (rw (byte-1, byte-2, byte-3) at (h .each))
 
-      x-is : three % 32 ≡ x - 2
-      x-is = first-bits three ∙ low-bits (three % 256) (x - 2) (byte-1 ∙ omega (arith, fits)) (omega (arith, fits))
+      plain : three - 64 * 65793 ≡ x - 2 + 256 * (y - 2) + 65536 * (z - 2)
+      plain = omega (arith, fits)
 
-      y-is : three / 256 % 32 ≡ y - 2
-      y-is = second-bits three ∙ low-bits (three / 256 % 256) (y - 2) (byte-2 ∙ omega (arith, fits)) (omega (arith, fits))
+      at-least : 64 * 65793 ≤ three
+      at-least = omega (arith, fits)
 
-      z-is : three / 65536 % 32 ≡ z - 2
-      z-is = low-bits (three / 65536) (z - 2) (byte-3 ∙ omega (arith, fits)) (omega (arith, fits))
-
-      all-low : (three % 32 < 25) × ((three / 256 % 32 < 25) × (three / 65536 % 32 < 25))
-      all-low = (rw x-is (omega (arith, fits .0)), (rw y-is (omega (arith, fits .1)), rw z-is (omega (arith, fits .2))))
+      bytes : ((three - 64 * 65793) % 256 ≡ x - 2) × ((three - 64 * 65793) / 256 % 256 ≡ y - 2) × ((three - 64 * 65793) / 65536 ≡ z - 2)
+      bytes =
+          let a : x - 2 < 256 = omega (arith, fits) in
+          let b : y - 2 < 256 = omega (arith, fits) in
+          rw plain (first-byte (x - 2) (y - 2) (z - 2) a b, second-byte (x - 2) (y - 2) (z - 2) a b, third-byte (x - 2) (y - 2) (z - 2) a b)
 
     held : Held three
     held = record {
@@ -137,8 +131,9 @@ module _ (last d e f : ℕ) where
       near = record { each = rw (byte-1, byte-2, byte-3) near-sums };
       good = λ h. record { each = rw (byte-1, byte-2, byte-3) (sums (inside x (h .0), inside y (h .1), inside z (h .2))) };
       each = λ h. (not-out x (fits h .0), not-out y (fits h .1), not-out z (fits h .2));
-      are = λ h. (x-is h, y-is h, z-is h);
-      low = all-low;
+      enough = at-least;
+      are = bytes;
+      low = λ h. omega (arith, fits h);
     }
 
     -- the number that the code makes
@@ -147,3 +142,82 @@ module _ (last d e f : ℕ) where
 
     pub sum-held : Held (last * 65793 + (62 + d + 256 * (60 + (d + e)) + 65536 * (58 + (d + e + f))))
     sum-held = rw sum-is held
+
+-- ---- a group's number below 128, and the number that the code makes of its step
+
+-- the three exponents without their 64
+abbrev pub threeOf : ℕ → ℕ × ℕ × ℕ
+threeOf three = ((three - 64 * 65793) % 256, (three - 64 * 65793) / 256 % 256, (three - 64 * 65793) / 65536)
+
+pub record Told (last group three : ℕ) : Type 0 where
+  pub word : three < 4294967296
+  pub near : NearThree three
+  pub refused : (ThreeInside three → ⊥) → unpack last group ≡ refuse (fault group)
+  pub made : ThreeInside three → unpack last group ≡ done (threeOf three)
+  pub enough : ThreeInside three → 64 * 65793 ≤ three
+  pub low : ThreeInside three → (threeOf three .0 < 25) × ((threeOf three .1 < 25) × (threeOf three .2 < 25))
+
+module _ (last group : ℕ) where
+  three-steps : ltb 124 group ≡ false → unpack last group ≡ steps last (group / 25) (group % 25 / 5) (group % 5)
+  unfolding unpack _>>=_
+  three-steps e = rw e
+
+  no-group : ltb 124 group ≡ true → unpack last group ≡ refuse (fault group)
+  unfolding unpack _>>=_
+  no-group e = rw e
+
+  -- a group
+  module _ {three : ℕ} (e : ltb 124 group ≡ false) (h : Held last (group / 25) (group % 25 / 5) (group % 5) three) where
+    outside : (ThreeInside three → ⊥) → unpack last group ≡ refuse (fault group)
+    unfolding _>>=_
+    outside out = three-steps e ∙ as-one last (group / 25) (group % 25 / 5) (group % 5) true (λ z. absurd (true≢false z)) (λ none. absurd (out (h .good none))) ∙ rw e
+
+    inside-all : ThreeInside three → unpack last group ≡ done (threeOf three)
+    unfolding _>>=_
+    inside-all i = three-steps e ∙ as-one last (group / 25) (group % 25 / 5) (group % 5) false (λ _. h .each i) (λ _. refl) ∙ rw (h .are i .0, h .are i .1, h .are i .2)
+
+    of-group : Told last group three
+    of-group = record {
+      word = h .word;
+      near = h .near;
+      refused = outside;
+      made = inside-all;
+      enough = h .enough;
+      low = λ i. rw (h .are i .0, h .are i .1, h .are i .2) (h .low i);
+    }
+
+-- no group: the bit of 32 stays in each byte
+module _ (last group : ℕ) (l : last < 32) (e : ltb 124 group ≡ true) where
+  abbrev unfit : ℕ
+  unfit = last * 65793 + 2105376
+
+  unfit-is : unfit ≡ 32 + last + 256 * (32 + last) + 65536 * (32 + last)
+  unfit-is = omega arith
+
+  each-byte : (unfit % 256 ≡ 32 + last) × (unfit / 256 % 256 ≡ 32 + last) × (unfit / 65536 ≡ 32 + last)
+  each-byte =
+      let b : 32 + last < 256 = omega arith in
+      rw unfit-is (first-byte (32 + last) (32 + last) (32 + last) b b, second-byte (32 + last) (32 + last) (32 + last) b b, third-byte (32 + last) (32 + last) (32 + last) b b)
+
+  never : ThreeInside unfit → ⊥
+  never h = omega (arith, h .each .0, each-byte .0)
+
+  of-none : Told last group unfit
+  of-none = record {
+    word = omega arith;
+    near = record { each = rw (each-byte .0, each-byte .1, each-byte .2) (omega arith) };
+    refused = λ _. no-group last group e;
+    made = λ h. absurd (never h);
+    enough = λ h. absurd (never h);
+    low = λ h. absurd (never h);
+  }
+
+pub told : {table : List ℕ} → Steps table → (last group : ℕ) → last < 32 → group < 128 → Told last group (last * 65793 + getD table group 0)
+told {table} steps last group l g = go (ltb 124 group) refl
+  where
+    go : (b : Bool) → ltb 124 group ≡ b → Told last group (last * 65793 + getD table group 0)
+    go true e = rw (steps .none group (ltb-true 124 group e) g) (of-none last group l e)
+    go false e =
+        let known : group ≤ 124 = ltb-false 124 group e in
+        rw (steps .each group (omega arith))
+        (of-group last group e (sum-held last (group / 25) (group % 25 / 5) (group % 5) l (omega arith) (omega arith) (omega arith)))

@@ -5,7 +5,7 @@ use lib.IntN.{ℤ}
 use lib.ListN.{length}
 use Rattle.syntax.specs.declared.Cursor.{Cursor}
 use Rattle.syntax.specs.Numbers.{rowWidth}
-use Rattle.syntax.specs.Reads.{Goes, afterRow}
+use Rattle.syntax.specs.Reads.{Goes}
 
 pub record AtHand (c : Cursor) (groups : ℕ) (s : List ℕ) (rows : List ℤ) : Type 0 where
   pub goes : Goes c
@@ -13,6 +13,6 @@ pub record AtHand (c : Cursor) (groups : ℕ) (s : List ℕ) (rows : List ℤ) :
   pub bytes : (c .at + 7 * groups) / 8 + 2 ≤ length s
   pub room : c .count + groups ≤ length rows / rowWidth
 
--- the cursor past one of them
-abbrev pub past : Cursor → Cursor
-past c = afterRow (c .at + 7) c
+-- the cursor past so many of them
+abbrev pub past : ℕ → Cursor → Cursor
+past n c = record { at = c .at + 7 * n; limit = c .limit; count = c .count + n; stop = c .stop }

@@ -8,6 +8,8 @@ use lib.ListN.{getD}
 pub record Steps (table : List ℕ) : Type 0 where
   pub each : (group : ℕ) → group < 125 → let x = group / 25 in let y = x + group % 25 / 5 in let z = y + group % 5 in
       getD table group 0 ≡ 62 + x + 256 * (60 + y) + 65536 * (58 + z)
+  -- a number that is no group has the bit of 32 in each byte, and keeps it where an exponent below 32 is added
+  pub none : (group : ℕ) → 124 < group → group < 128 → getD table group 0 ≡ 2105376
 
 -- no byte of three has the bit of 32
 pub record Unmarked (three : ℕ) : Type 0 where

@@ -1,4 +1,5 @@
 pub mod Exponents
 pub mod Bytes
+pub mod Made
 pub mod AtHand
 pub mod Sound

@@ -1,26 +1,24 @@
 // The groups of a set (6.1.3): each has three exponents, and each of these stands for 1, 2 or 4 bins.
 use crate::unpack::Three;
+use crate::unpack::fault;
 use crate::unpack::steps;
 use crate::unpack::unpack;
 use syntax::Cursor;
-use syntax::Item;
-use syntax::ROW;
-use syntax::Taken;
+use syntax::cursors::refuse_if;
 use syntax::items::part_of;
 use syntax::readers::take;
-use syntax::readers::take_at_hand;
 ghost use mathlib.Core.Path.{_≡_};
-ghost use mathlib.Core.Bool.{true};
+ghost use mathlib.Core.Bool.{cond};
 ghost use Prim.Native.Nat.{_+_, _*_, _<_, _≤_};
 ghost use lib.IntN.{pos};
 ghost use lib.ListN.{replicate};
 ghost use lib.Seq.{sets};
-ghost use Rattle.syntax.specs.Grammar.{for, take, partOf};
-ghost use Rattle.syntax.specs.Reads.{Goes, Reads};
+ghost use Rattle.syntax.specs.Grammar.{for, partOf, done, refuse};
+ghost use Rattle.syntax.specs.Reads.{Reads};
 ghost use Rattle.slots.specs.Sound.{SoundRow};
 ghost use Rattle.exponents.specs.Exponents as grammar;
-ghost use Rattle.exponents.specs.AtHand.{AtHand, past};
 ghost use Rattle.exponents.specs.Bytes.{Steps};
+ghost use Rattle.exponents.specs.Made as made;
 ghost use Rattle.exponents.specs.Sound.{SoundUnpacked};
 
 // The bins that an exponent stands for.
@@ -67,51 +65,48 @@ fn spread(row: &mut [i16; 256], at: usize, strategy: u8, three: Three)
     repeat(row, at + bins + bins, strategy, three.z);
 }
 
-// Whether frame, input and room hold so many groups.
-pub(crate) fn all_at_hand(s: &[u8], rows: &[i32], c: Cursor, count: usize) -> bool
-    ensures { λ r. ⌜ (r ≡ true → AtHand c count (now (s .entry)) (now (rows .entry))) ⌝ }
-{
-    if c.stop.number != 0 {
-        return false;
-    }
-    let left = rows.len() / ROW;
-    if left < count {
-        return false;
-    }
-    if left - count < c.count {
-        return false;
-    }
-    let end = c.at as usize + 7 * count;
-    if (c.limit as usize) < end {
-        return false;
-    }
-    if s.len() < end / 8 + 2 {
-        return false;
-    }
-    true
-}
-
-// Reads the number of a group: with no test where it is surely at hand.
-fn take_group(s: &[u8], rows: &mut [i32], c: Cursor, item: Item, sure: bool) -> Taken
-    requires { ⌜ (sure ≡ true → AtHand c 1 (now s) (now rows)) ⌝ }
-    ensures { λ r. ⌜ Reads (take item 7) (now (s .entry)) c (now (rows .entry)) (r .value) (r .cursor) (now (rows .exit)) ⌝ }
-    ensures { λ r. ⌜ (sure ≡ true → r .cursor ≡ past c) ⌝ }
-{
-    if sure {
-        return take_at_hand(s, rows, c, item, 7);
-    }
-    take(s, rows, c, item, 7)
-}
-
-// The groups of a set: the block, name and index that they are recorded with, their strategy, the first bin, and whether they are surely at
-// hand.
+// The groups of a set: the block, name and index that they are recorded with, their strategy, and the first bin.
 pub(crate) struct Grouping {
     pub(crate) blk: u8,
     pub(crate) name: u8,
     pub(crate) index: u8,
     pub(crate) strategy: u8,
     pub(crate) first: usize,
-    pub(crate) sure: bool,
+}
+
+// The last exponent that a group made, or whether the group is bad.
+pub(crate) struct Made {
+    pub(crate) last: u32,
+    pub(crate) bad: bool,
+}
+
+// The exponents of group number n, into the row.
+pub(crate) fn unpack_group(
+    row: &mut [i16; 256],
+    steps: &[u32; 128],
+    set: Grouping,
+    n: usize,
+    last: u32,
+    group: u32,
+) -> Made
+    requires { ⌜ (set .strategy < 4) × (group < 128) ⌝ }
+    requires { ⌜ set .first + n * (3 * grammar.binsEach (set .strategy)) + 3 * grammar.binsEach (set .strategy) ≤ 256 ⌝ }
+    requires { ⌜ SoundUnpacked (record { last = last; row = now row }) ⌝ }
+    requires { ⌜ Steps (now steps) ⌝ }
+    ensures { λ r. ⌜ made.ofNumber (grammar.binsEach (set .strategy)) (set .first) n (record { last = last; row = now (row .entry) }) group
+        ≡ cond (r .bad) (refuse (made.fault group)) (done (record { last = r .last; row = now (row .exit) })) ⌝ }
+    ensures { λ r. ⌜ SoundUnpacked (record { last = r .last; row = now (row .exit) }) ⌝ }
+{
+    let three = unpack(steps, last, group);
+    if three.bad {
+        return Made { last: 0, bad: true };
+    }
+    let at = set.first + n * (3 * bins_each(set.strategy));
+    spread(row, at, set.strategy, three);
+    Made {
+        last: three.z,
+        bad: false,
+    }
 }
 
 // The last exponent that was made, and where reading stands.
@@ -120,40 +115,7 @@ pub(crate) struct GroupRead {
     pub(crate) cursor: Cursor,
 }
 
-// Group number n.
-fn group(
-    s: &[u8],
-    rows: &mut [i32],
-    c: Cursor,
-    row: &mut [i16; 256],
-    steps: &[u32; 125],
-    set: Grouping,
-    n: usize,
-    last: u32,
-) -> GroupRead
-    requires { ⌜ set .strategy < 4 ⌝ }
-    requires { ⌜ set .first + n * (3 * grammar.binsEach (set .strategy)) + 3 * grammar.binsEach (set .strategy) ≤ 256 ⌝ }
-    requires { ⌜ SoundUnpacked (record { last = last; row = now row }) ⌝ }
-    requires { ⌜ Steps (now steps) ⌝ }
-    requires { ⌜ (set .sure ≡ true → AtHand c 1 (now s) (now rows)) ⌝ }
-    ensures { λ r. ⌜ Reads (grammar.group (partOf (set .blk) (set .name) (set .index)) (grammar.binsEach (set .strategy)) (set .first) n (record { last = last; row = now (row .entry) })) (now (s .entry)) c (now (rows .entry))
-        (record { last = r .last; row = now (row .exit) }) (r .cursor) (now (rows .exit)) ⌝ }
-    ensures { λ r. ⌜ SoundUnpacked (record { last = r .last; row = now (row .exit) }) ⌝ }
-    ensures { λ r. ⌜ (set .sure ≡ true → Goes (r .cursor) → r .cursor ≡ past c) ⌝ }
-{
-    let at = set.first + n * (3 * bins_each(set.strategy));
-    let item = part_of(set.blk, set.name, set.index, n as u8);
-    let grouped = take_group(s, rows, c, item, set.sure);
-    let three = unpack(grouped.cursor, steps, last, grouped.value);
-    spread(row, at, set.strategy, three);
-    let cursor = three.cursor;
-    GroupRead {
-        last: three.z,
-        cursor,
-    }
-}
-
-// All groups of a set.
+// All groups of a set, each with its tests.
 pub(crate) fn groups(
     s: &[u8],
     rows: &mut [i32],
@@ -166,7 +128,6 @@ pub(crate) fn groups(
     requires { ⌜ set .strategy < 4 ⌝ }
     requires { ⌜ set .first + count * (3 * grammar.binsEach (set .strategy)) ≤ 256 ⌝ }
     requires { ⌜ SoundUnpacked (record { last = last; row = now row }) ⌝ }
-    requires { ⌜ (set .sure ≡ true → AtHand c count (now s) (now rows)) ⌝ }
     ensures { λ r. ⌜ Reads (for 0 count (record { last = last; row = now (row .entry) }) (grammar.group (partOf (set .blk) (set .name) (set .index)) (grammar.binsEach (set .strategy)) (set .first))) (now (s .entry)) c (now (rows .entry))
         (record { last = r .last; row = now (row .exit) }) (r .cursor) (now (rows .exit)) ⌝ }
     ensures { λ r. ⌜ SoundUnpacked (record { last = r .last; row = now (row .exit) }) ⌝ }
@@ -175,9 +136,11 @@ pub(crate) fn groups(
     let mut exponent = last;
     let mut cursor = c;
     for n in 0..count {
-        let next = group(s, rows, cursor, row, &steps, set, n, exponent);
-        exponent = next.last;
-        cursor = next.cursor;
+        let item = part_of(set.blk, set.name, set.index, n as u8);
+        let grouped = take(s, rows, cursor, item, 7);
+        let made = unpack_group(row, &steps, set, n, exponent, grouped.value);
+        exponent = made.last;
+        cursor = refuse_if(grouped.cursor, made.bad, fault(grouped.value));
         if cursor.stop.number != 0 {
             return GroupRead {
                 last: exponent,

@@ -1,6 +1,8 @@
 // One set of exponents (4.3.3, 6.1.3): a first exponent, and then groups of differences.
+use crate::at_hand::all_at_hand;
+use crate::at_hand::groups_at_hand;
+use crate::groups::GroupRead;
 use crate::groups::Grouping;
-use crate::groups::all_at_hand;
 use crate::groups::bins_each;
 use crate::groups::groups;
 use slots::CPL;
@@ -11,8 +13,9 @@ use syntax::names;
 use syntax::readers::take;
 ghost use mathlib.Core.Path.{_≡_};
 ghost use mathlib.Core.Bool.{cond};
-ghost use Prim.Native.Nat.{_-_, _<_};
+ghost use Prim.Native.Nat.{_+_, _-_, _*_, _<_, _≤_};
 ghost use lib.Dec.{eqb};
+ghost use Rattle.syntax.specs.Grammar.{for, partOf};
 ghost use Rattle.syntax.specs.Reads.{Reads};
 ghost use Rattle.slots.specs.Slots as slots;
 ghost use Rattle.slots.specs.Sound.{SoundRow};
@@ -88,6 +91,29 @@ fn group_count(set: Set) -> usize
     }
 }
 
+// All groups of a set: each is tested by itself only where they are not all at hand.
+fn all_groups(
+    s: &[u8],
+    rows: &mut [i32],
+    c: Cursor,
+    row: &mut [i16; 256],
+    set: Grouping,
+    count: usize,
+    last: u32,
+) -> GroupRead
+    requires { ⌜ set .strategy < 4 ⌝ }
+    requires { ⌜ set .first + count * (3 * grammar.binsEach (set .strategy)) ≤ 256 ⌝ }
+    requires { ⌜ SoundUnpacked (record { last = last; row = now row }) ⌝ }
+    ensures { λ r. ⌜ Reads (for 0 count (record { last = last; row = now (row .entry) }) (grammar.group (partOf (set .blk) (set .name) (set .index)) (grammar.binsEach (set .strategy)) (set .first))) (now (s .entry)) c (now (rows .entry))
+        (record { last = r .last; row = now (row .exit) }) (r .cursor) (now (rows .exit)) ⌝ }
+    ensures { λ r. ⌜ SoundUnpacked (record { last = r .last; row = now (row .exit) }) ⌝ }
+{
+    if all_at_hand(s, &*rows, c, count) {
+        return groups_at_hand(s, rows, c, row, set, count, last);
+    }
+    groups(s, rows, c, row, set, count, last)
+}
+
 // The exponents of a set, into a row that holds no others then.
 pub(crate) fn exponent_set(
     s: &[u8],
@@ -111,8 +137,7 @@ pub(crate) fn exponent_set(
         index,
         strategy: set.strategy,
         first: first_grouped(set.slot, set.start),
-        sure: all_at_hand(s, &*rows, absexp.cursor, count),
     };
-    let unpacked = groups(s, rows, absexp.cursor, row, grouped, count, last);
+    let unpacked = all_groups(s, rows, absexp.cursor, row, grouped, count, last);
     unpacked.cursor
 }

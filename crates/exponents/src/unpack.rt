@@ -1,24 +1,26 @@
 // The three exponents of a group (6.1.3), from its number and the exponent before it. They are made, and judged, as one number with a byte
 // for each.
-use syntax::Cursor;
-use syntax::cursors::refuse_if;
+use syntax::Refusal;
 use syntax::refusals::BAD_EXPONENT;
 use syntax::refusals::BAD_GROUP;
 ghost use mathlib.Core.Path.{_≡_};
-ghost use mathlib.Core.Bool.{false};
-ghost use mathlib.Core.List.{List};
-ghost use Prim.Native.Nat.{ℕ, _<_};
-ghost use lib.IntN.{ℤ};
-ghost use Rattle.syntax.specs.Reads.{Reads};
+ghost use mathlib.Core.Bool.{false, cond};
+ghost use Prim.Native.Nat.{_<_};
+ghost use Rattle.syntax.specs.Grammar.{done, refuse};
 ghost use Rattle.exponents.specs.Exponents as grammar;
 ghost use Rattle.exponents.specs.Bytes.{Steps, Unmarked, NearThree, ThreeInside};
+ghost use Rattle.exponents.specs.Made as made;
 
 // The same number in each of three bytes.
 const EACH: u32 = 0x010101;
 
+// What is no group: the bit of 32 in each byte, which no exponent below 32 carries away. So one test refuses it with the exponents outside
+// 0 to 24.
+const NO_GROUP: u32 = 0x202020;
+
 // What a group adds to the exponent before it, a byte for each of its three exponents (the first is the lowest): its differences so far,
 // and 64, so that no sum is negative. Looked up instead of divided.
-const STEPS: [u32; 125] = [
+const STEPS: [u32; 128] = [
     0x3a3c3e,
     0x3b3c3e,
     0x3c3c3e,
@@ -144,9 +146,12 @@ const STEPS: [u32; 125] = [
     0x444442,
     0x454442,
     0x464442,
+    NO_GROUP,
+    NO_GROUP,
+    NO_GROUP,
 ];
 
-pub(crate) fn steps() -> [u32; 125]
+pub(crate) fn steps() -> [u32; 128]
     ensures { λ r. ⌜ Steps r ⌝ }
 {
     STEPS
@@ -179,45 +184,42 @@ fn any_outside(three: u32) -> bool
     is_marked(three + 7 * EACH)
 }
 
-// Three exponents, and where reading stands; they are 0 where it stopped.
+// Why a group is refused: refusal 16 where it is none of the 125, refusal 17 where one of its three exponents is outside 0 to 24.
+pub(crate) fn fault(group: u32) -> Refusal
+    ensures { λ r. ⌜ r ≡ made.fault group ⌝ }
+{
+    if 124 < group { BAD_GROUP } else { BAD_EXPONENT }
+}
+
+// Three exponents, or whether they are bad.
 pub(crate) struct Three {
     pub(crate) x: u32,
     pub(crate) y: u32,
     pub(crate) z: u32,
-    pub(crate) cursor: Cursor,
+    pub(crate) bad: bool,
 }
 
-// The exponents of a group: refusal 16 where it is none of the 125, refusal 17 where one of the three is outside 0 to 24.
-pub(crate) fn unpack(c: Cursor, steps: &[u32; 125], last: u32, group: u32) -> Three
-    requires { ⌜ last < 32 ⌝ }
+// The exponents of a group.
+pub(crate) fn unpack(steps: &[u32; 128], last: u32, group: u32) -> Three
+    requires { ⌜ (last < 32) × (group < 128) ⌝ }
     requires { ⌜ Steps (now steps) ⌝ }
-    ensures { λ r. ⌜ ((s : List ℕ) (room : List ℤ) → Reads (grammar.unpack last group) s c room (r .x, r .y, r .z) (r .cursor) room) ⌝ }
+    ensures { λ r. ⌜ grammar.unpack last group ≡ cond (r .bad) (refuse (made.fault group)) (done (r .x, r .y, r .z)) ⌝ }
     ensures { λ r. ⌜ (r .x < 25) × ((r .y < 25) × (r .z < 25)) ⌝ }
-    ensures { λ r. ⌜ (r .cursor .stop .number ≡ 0 → r .cursor ≡ c) ⌝ }
 {
-    let known = refuse_if(c, 124 < group, BAD_GROUP);
-    if known.stop.number != 0 {
-        return Three {
-            x: 0,
-            y: 0,
-            z: 0,
-            cursor: known,
-        };
-    }
     let three = last * EACH + steps[group as usize];
-    let cursor = refuse_if(known, any_outside(three), BAD_EXPONENT);
-    if cursor.stop.number != 0 {
+    if any_outside(three) {
         return Three {
             x: 0,
             y: 0,
             z: 0,
-            cursor,
+            bad: true,
         };
     }
+    let plain = three - 64 * EACH;
     Three {
-        x: three % 32,
-        y: three / 256 % 32,
-        z: three / 65536 % 32,
-        cursor,
+        x: plain % 256,
+        y: plain / 256 % 256,
+        z: plain / 65536,
+        bad: false,
     }
 }

@@ -1,9 +1,9 @@
--- `exponents::groups::all_at_hand` meets its contract: each test gives its fact. Assumes nothing.
+-- `exponents::at_hand::all_at_hand` meets its contract: each test gives its fact. Assumes nothing.
 use mathlib.Core.Bool.{true≢false}
 use mathlib.Core.Path.{sym}
 use borrow.Author.Needs.{needs}
-use Rattle.exponents.proofs.groups.all_at_hand.Statement.{statement}
-use Rattle.exponents.proofs.groups.all_at_hand.Tie as tie
+use Rattle.exponents.proofs.at_hand.all_at_hand.Statement.{statement}
+use Rattle.exponents.proofs.at_hand.all_at_hand.Tie as tie
 
 pub all-at-hand-spec : {M : Type 1} → statement M
 all-at-hand-spec =

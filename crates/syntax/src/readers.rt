@@ -2,20 +2,16 @@
 use crate::Cursor;
 use crate::Flagged;
 use crate::Item;
-use crate::ROW;
 use crate::Refusal;
 use crate::Taken;
 use crate::cursors::halt;
 use crate::rows::put;
-use crate::rows::write_row;
 ghost use mathlib.Core.Path.{_≡_};
 ghost use mathlib.Core.List.{List};
-ghost use Prim.Native.Nat.{ℕ, _<_, _≤_, _+_, _*_, _/_, _^_};
-ghost use lib.ListN.{length};
+ghost use Prim.Native.Nat.{ℕ, _<_, _≤_, _^_};
 ghost use lib.IntN.{ℤ};
 ghost use Rattle.syntax.specs.Grammar as grammar;
-ghost use Rattle.syntax.specs.Numbers.{rowWidth};
-ghost use Rattle.syntax.specs.Reads.{Goes, afterRow, Reads};
+ghost use Rattle.syntax.specs.Reads.{Reads};
 
 // Reads a value of at most 16 bits.
 pub fn take(s: &[u8], rows: &mut [i32], c: Cursor, item: Item, width: u16) -> Taken
@@ -25,25 +21,6 @@ pub fn take(s: &[u8], rows: &mut [i32], c: Cursor, item: Item, width: u16) -> Ta
 {
     let value = bits::get(s, c.at as usize, width as usize);
     let cursor = put(rows, c, item, width, value);
-    Taken { value, cursor }
-}
-
-// The same where frame, input and room were found to hold it: no test is left.
-pub fn take_at_hand(s: &[u8], rows: &mut [i32], c: Cursor, item: Item, width: u16) -> Taken
-    requires { ⌜ Goes c × (width ≤ 9) × (c .at + width ≤ c .limit) ⌝ }
-    requires { ⌜ (c .at / 8 + 1 < length (now s)) × (c .count * rowWidth + rowWidth ≤ length (now rows)) ⌝ }
-    ensures { λ r. ⌜ Reads (grammar.take item width) (now (s .entry)) c (now (rows .entry)) (r .value) (r .cursor) (now (rows .exit)) ⌝ }
-    ensures { λ r. ⌜ (r .value < 2 ^ width) × (r .cursor ≡ afterRow (c .at + width) c) ⌝ }
-{
-    let value = bits::get_at_hand(s, c.at as usize, width as usize);
-    write_row(rows, c.count * ROW, item, c.at, width, value);
-    let stop = c.stop;
-    let cursor = Cursor {
-        at: c.at + width,
-        limit: c.limit,
-        count: c.count + 1,
-        stop,
-    };
     Taken { value, cursor }
 }
 

@@ -54,7 +54,7 @@ pub fn shown(n: u8) -> i32
 }
 
 // Writes a row from place `to` on.
-pub fn write_row(rows: &mut [i32], to: usize, item: Item, start: u16, width: u16, value: u32)
+fn write_row(rows: &mut [i32], to: usize, item: Item, start: u16, width: u16, value: u32)
     requires { ⌜ (to + numbers.rowWidth ≤ length (now rows)) × (value < 65536) ⌝ }
     ensures { λ _. ⌜ now (rows .exit) ≡ sets (now (rows .entry)) to (numbers.numbers (row spanning item start width value)) ⌝ }
 {

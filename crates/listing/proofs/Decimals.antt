@@ -3,10 +3,10 @@ use mathlib.Core.Path.{_≡_, ap, sym, _∙_}
 use mathlib.Core.Bool.{Bool, true, false, cond}
 use mathlib.Core.List.{List, [], _∷_, _++_}
 use Prim.Native.Nat.{ℕ, zero, suc, _+_, _-_, _/_, _%_, _^_, _≤_, _<_, zero-le}
-use native.Mathlib.Nat.{div-lt-iff-lt-mul}
+use native.Mathlib.Nat.{div-lt-iff-lt-mul, div-le-self, le-div-iff-mul-le}
 use native.Mathlib.Omega.{arith}
 use borrow.Author.Tests.{lt-ltb, le-ltb, eq-eqb, ne-eqb}
-use lib.Dec.{lit<, ltb}
+use lib.Dec.{lit<, lit≤, ltb}
 use lib.ListN.{length, length-append}
 use Rattle.listing.specs.Number.{decimalIn, decimal, signed}
 
@@ -53,3 +53,36 @@ pub signed-digit : {v : ℕ} → ¬ (v ≡ 0) → v < 11 → signed v ≡ (47 + 
 signed-digit {v} z h =
     let e : 48 + (v - 1) ≡ 47 + v = omega arith in
     signed-some z ∙ decimal-small (omega arith) ∙ ap (λ (d : ℕ). d ∷ []) e
+
+pub decimal-two : {n : ℕ} → 10 ≤ n → n < 100 → decimal n ≡ (48 + n / 10) ∷ (48 + n % 10) ∷ []
+decimal-two {n} h k =
+    decimal-large h (omega arith)
+    ∙ ap (λ (l : List ℕ). l ++ ((48 + n % 10) ∷ [])) (decimal-small (div-lt-iff-lt-mul {k = 10} (lit< tt) .1 (omega arith)))
+
+-- the last two digits of three or more
+pub decimal-pair : {n : ℕ} → 10 ≤ n → 10 ≤ n / 10 → n < 2 ^ 64 → decimal n ≡ (decimal (n / 10 / 10) ++ ((48 + n / 10 % 10) ∷ [])) ++ ((48 + n % 10) ∷ [])
+decimal-pair {n} h k b =
+    decimal-large h b ∙ ap (λ (l : List ℕ). l ++ ((48 + n % 10) ∷ [])) (decimal-large k (omega (arith, div-le-self n 10, b)))
+
+pub pair-length : {n : ℕ} → 10 ≤ n → 10 ≤ n / 10 → n < 2 ^ 64 → length (decimal n) ≡ length (decimal (n / 10 / 10)) + 2
+pair-length {n} h k b =
+    omega (
+      arith,
+      ap length (decimal-pair h k b),
+      length-append (decimal (n / 10 / 10) ++ ((48 + n / 10 % 10) ∷ [])) ((48 + n % 10) ∷ []),
+      length-append (decimal (n / 10 / 10)) ((48 + n / 10 % 10) ∷ []),
+    )
+
+ten-some : (k : ℕ) → 1 ≤ 10 ^ k
+ten-some zero = lit≤ tt
+ten-some (suc k) = omega (arith, ten-some k)
+
+-- how many digits there are from one power of ten to the next
+pub decimal-count : (k n : ℕ) → 10 ^ k ≤ n → n < 10 ^ suc k → n < 2 ^ 64 → length (decimal n) ≡ suc k
+decimal-count zero n l h b = ap length (decimal-small (omega (arith, h)))
+decimal-count (suc k) n l h b =
+    let g : 10 ≤ n = omega (arith, l, ten-some k) in
+    let e =
+    decimal-count k (n / 10) (le-div-iff-mul-le {k = 10} (lit< tt) .1 (omega (arith, l))) (div-lt-iff-lt-mul {k = 10} (lit< tt) .1 (omega (arith, h)))
+    (omega (arith, div-le-self n 10, b)) in
+    omega (arith, ap length (decimal-large g b), length-append (decimal (n / 10)) ((48 + n % 10) ∷ []), e)

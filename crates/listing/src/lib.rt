@@ -15,10 +15,25 @@ pub fn put(out: &mut [u8], at: usize, b: u8) -> usize
     at + 1
 }
 
-// How many decimal digits a number has.
+// How many decimal digits a number has. Most have few, and are not divided.
 fn decimal_size(v: usize) -> usize
     ensures { λ r. ⌜ (r ≡ length (decimal v)) × (r ≤ 20) ⌝ }
 {
+    if v < 10 {
+        return 1;
+    }
+    if v < 100 {
+        return 2;
+    }
+    if v < 1000 {
+        return 3;
+    }
+    if v < 10000 {
+        return 4;
+    }
+    if v < 100000 {
+        return 5;
+    }
     let mut rest = v;
     let mut n = 1;
     while 10 <= rest {
@@ -28,7 +43,16 @@ fn decimal_size(v: usize) -> usize
     n
 }
 
-// A number's decimal digits from a place on; the place after them.
+// The two digits of a number from a place on; the place after them.
+fn put_two(out: &mut [u8], at: usize, v: usize) -> usize
+    requires { ⌜ (10 ≤ v) × (v < 100) × (at + length (decimal v) ≤ length (now out)) ⌝ }
+    ensures { λ r. ⌜ (r ≡ at + length (decimal v)) × (now (out .exit) ≡ sets (now (out .entry)) at (decimal v)) ⌝ }
+{
+    let to = put(out, at, (48 + v / 10) as u8);
+    put(out, to, (48 + v % 10) as u8)
+}
+
+// A number's decimal digits from a place on, by two at a time from the last; the place after them.
 fn put_decimal(out: &mut [u8], at: usize, v: usize) -> usize
     requires { ⌜ at + length (decimal v) ≤ length (now out) ⌝ }
     ensures { λ r. ⌜ (r ≡ at + length (decimal v)) × (now (out .exit) ≡ sets (now (out .entry)) at (decimal v)) ⌝ }
@@ -36,8 +60,13 @@ fn put_decimal(out: &mut [u8], at: usize, v: usize) -> usize
     if v < 10 {
         return put(out, at, (48 + v) as u8);
     }
-    let to = put_decimal(out, at, v / 10);
-    put(out, to, (48 + v % 10) as u8)
+    let tenth = v / 10;
+    if tenth < 10 {
+        return put_two(out, at, v);
+    }
+    let to = put_decimal(out, at, tenth / 10);
+    let last = put(out, to, (48 + tenth % 10) as u8);
+    put(out, last, (48 + v % 10) as u8)
 }
 
 // How many bytes of text a stored number takes.
@@ -61,6 +90,9 @@ pub fn put_signed(out: &mut [u8], at: usize, v: usize) -> usize
     }
     if v < 11 {
         return put(out, at, (47 + v) as u8);
+    }
+    if v < 101 {
+        return put_two(out, at, v - 1);
     }
     put_decimal(out, at, v - 1)
 }

@@ -1,6 +1,6 @@
 -- A whole number of a text at once: the digits so far are those of the value so far, and the reader goes over a printed number and the byte
 -- that ends it as `TextRead` says. Assumes nothing.
-use mathlib.Core.Path.{_≡_, refl, ap, sym, _∙_}
+use mathlib.Core.Path.{_≡_, refl, ap, subst, sym, _∙_}
 use mathlib.Core.Bool.{Bool, true, false, cond}
 use mathlib.Core.List.{List, [], _∷_, _++_, append-assoc, append-nil}
 use Prim.Native.Nat.{ℕ, _+_, _-_, _*_, _≤_, _<_}
@@ -20,7 +20,7 @@ use Rattle.packed.specs.Moves.{Moves, SpeltAt, cell, leftAfter, numberEn
 use Rattle.listing.specs.Number.{decimal, groups, signed, separator}
 use Rattle.listing.specs.Listing.{grouped}
 use Rattle.packed.specs.Text.{rowEnd, rowOn, lastOn, step, tell, yields}
-use Rattle.listing.proofs.Decimals.{decimal-small, signed-none, signed-some}
+use Rattle.listing.proofs.Decimals.{decimal-small, signed-digit, signed-none, signed-some}
 use Rattle.packed.proofs.Cases.{by-test, differ}
 use Rattle.packed.proofs.Runs.{Goes, after-append, told-append}
 use Rattle.packed.proofs.TextRead.{begins-append, number-ends, one-more, row-begins, signed-begins, told-groups}
@@ -110,6 +110,42 @@ module _ (l : List ℕ) (at : ℕ) where
       (byte-at l at h e ∙ ap (λ (y : List ℕ). 45 ∷ y) d ∙ ap (λ (y : List ℕ). y ++ drop (at + 2) l) (sym (signed-none {v = 0} refl)))
       f
 
+  -- the same by its bytes: one digit, and two
+  pub spelt-digit :
+      (s : ℕ)
+      → 48 ≤ getD l at 0
+      → getD l at 0 < 58
+      → at + 1 < length l
+      → getD l (at + 1) 0 ≡ s
+      → SpeltAt l at s (record { stored = getD l at 0 - 47; end = at + 2 })
+  spelt-digit s low high h e =
+      let v = getD l at 0 - 47 in
+      let c : 47 + v ≡ getD l at 0 = omega arith in
+      let g : signed v ≡ getD l at 0 ∷ [] = signed-digit {v = v} (omega arith) (omega arith) ∙ ap (λ (b : ℕ). b ∷ []) c in
+      spelt v (at + 1) s (record { stored = v; end = at + 2 }) (omega arith)
+      (byte-at l at (omega arith) refl ∙ ap (λ (y : List ℕ). y ++ drop (at + 1) l) (sym g))
+      (λ _. (refl, omega arith, h, e))
+
+  pub spelt-two :
+      (s : ℕ)
+      → 49 ≤ getD l at 0
+      → getD l at 0 < 58
+      → 48 ≤ getD l (at + 1) 0
+      → getD l (at + 1) 0 < 58
+      → at + 2 < length l
+      → getD l (at + 2) 0 ≡ s
+      → SpeltAt l at s (record { stored = (getD l at 0 - 48) * 10 + (getD l (at + 1) 0 - 48) + 1; end = at + 3 })
+  spelt-two s low high low′ high′ h e =
+      let a = getD l at 0 - 48 in
+      let b = getD l (at + 1) 0 - 48 in
+      let c : at + 1 + 1 ≡ at + 2 = omega arith in
+      let first : Run l at a (at + 1) = run-first a (omega arith) (omega arith) (omega arith) (omega arith) in
+      let both : Run l at (a * 10 + b) (at + 2) = rw c at (run-more {d = b} first (omega arith) (omega arith) (omega arith) (omega arith)) in
+      spelt-run s (record { stored = a * 10 + b + 1; end = at + 3 }) both (λ _. (refl, omega arith, h, e))
+
+pub spelt-same : (l : List ℕ) (at s : ℕ) {r n : Spelt} → n ≡ r → SpeltAt l at s r → SpeltAt l at s n
+spelt-same l at s e f = subst (λ (x : Spelt). SpeltAt l at s x) (sym e) f
+
 pub spelt-none : (l : List ℕ) (at s n : ℕ) → SpeltAt l at s (record { stored = n; end = 0 })
 spelt-none l at s n h = absurd (omega (arith, h))
 
@@ -184,5 +220,15 @@ cell-moves l rows left i r m k f h =
     rw (append-nil (groups (r .stored)), cell-numbered rows left (r .stored) m k) at
     (number-moves l (cell rows left) i r (λ z. separator-some left (e ∙ z)) (rw e at f) h)
 
-pub left-most : (left : ℕ) → left ≤ 8 → leftAfter left ≤ 8
-left-most left h = by-test (λ n. n ≤ 8) (eqb left 0) (λ _. lit≤ tt) (λ _. omega arith)
+-- before the last number of the row
+pub spaced-moves :
+    (l : List ℕ) (rows left i : ℕ) (r : Spelt)
+    → 0 < left
+    → left ≤ 8
+    → rows < 2147483648
+    → SpeltAt l i 32 r
+    → i < r .end
+    → Moves step tell l (cell rows left) i (groups (r .stored)) (cell rows (left - 1)) (r .end)
+spaced-moves l rows left i r z m k f h =
+    let e : eqb left 0 ≡ false = ne-eqb left 0 (omega arith) in
+    rw e at (cell-moves l rows left i r m k (rw e f) h)

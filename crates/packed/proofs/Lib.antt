@@ -1,6 +1,7 @@
 pub mod Groups
 pub mod Told
 pub mod Passes
+pub mod Few
 pub mod Answers
 pub mod Examples
 pub mod Runs

@@ -11,6 +11,14 @@ use Rattle.packed.specs.Machine.{after, told}
 use Rattle.packed.specs.Moves.{Counted, Moves}
 use Rattle.listing.proofs.Left.{Left, front, onward, finished}
 
+-- another has written on from where it stood
+pub resumed :
+    {out : List ℕ} {at : ℕ} {w whole : List ℕ} {end size : ℕ} {out′ : List ℕ} {at′ : ℕ} {w′ : List ℕ}
+    → Left out at w whole end size
+    → Left out′ at′ w′ (sets out at w) (at + length w) (length out)
+    → Left out′ at′ w′ whole end size
+resumed l m = record { room = m .room; same = m .same ∙ l .same; ends = m .ends ∙ l .ends; long = m .long ∙ l .long }
+
 module _ {S : Type 0} (step : S → ℕ → S) (tell : S → ℕ → List ℕ) (bytes : List ℕ) where
   after-drop : (s : S) (i : ℕ) → i < length bytes → after step s (drop i bytes) ≡ after step (step s (getD bytes i 0)) (drop (i + 1) bytes)
   after-drop s i h = rw (add-one, drop-cons bytes i 0 h)

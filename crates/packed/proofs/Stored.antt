@@ -3,7 +3,7 @@ use mathlib.Core.Path.{_≡_, refl, ap, sym, _∙_}
 use mathlib.Core.Bool.{Bool, true, false, cond}
 use mathlib.Core.List.{List, [], _∷_, _++_}
 use Prim.Native.Nat.{ℕ, _+_, _-_, _*_, _^_, _%_, _≤_, _<_, min}
-use native.Mathlib.Nat.{mod-lt, mul-le-mul}
+use native.Mathlib.Nat.{mod-eq-of-lt, mod-lt, mul-le-mul}
 use native.Mathlib.Omega.{arith}
 use borrow.Author.Tests.{le-leb, le-ltb, lt-ltb, ne-eqb}
 use lib.Dec.{eqb, lit<}
@@ -69,6 +69,22 @@ module _ (l : List ℕ) (at : ℕ) where
         tells = r .tells p ∙ one-byte step tell l (At p n k) i h .tells ∙ ap (λ (x : Group). spoken p x ++ told step tell (grouping p x) (drop (i + 1) l)) g;
       }
 
+  -- two groups
+  pub stored-two :
+      at + 1 < length l
+      → 128 ≤ getD l at 0
+      → ¬ (getD l (at + 1) 0 ≡ 0)
+      → getD l (at + 1) 0 < 128
+      → StoredAt l at (record { stored = getD l at 0 % 128 + getD l (at + 1) 0 * 128; end = at + 2 })
+  stored-two h a z b =
+      let n = getD l at 0 % 128 in
+      let k : n < 128 = mod-lt (getD l at 0) {m = 128} (lit< tt) in
+      let one = running-more running-none (omega arith) (group-goes 0 0 (getD l at 0) {m = n} (omega arith) (omega arith) a) (omega arith) in
+      let v = n + getD l (at + 1) 0 * 128 in
+      let two = group-whole n 1 (getD l (at + 1) 0) {m = v} (ap (λ (x : ℕ). n + x * 128) (sym (mod-eq-of-lt b))) (omega arith) z b in
+      let c : at + 1 + 1 ≡ at + 2 = omega arith in
+      rw c at (running-ends one h two)
+
 pub stored-none : (l : List ℕ) (at : ℕ) → StoredAt l at (record { stored = 0; end = 0 })
 stored-none l at h = absurd (omega (arith, h))
 
@@ -91,6 +107,18 @@ spot-moves l more left i r m f h =
     go : (t : Bool) → cond t (rowsOn (more - 1)) (At (Cell (more - 1) (left - 1)) 0 0) ≡ spot (cond t (more - 1) more) (cond t 8 (left - 1))
     go true = refl
     go false = simp (ne-eqb more 0 (omega arith))
+
+-- before the last number of the row
+pub spot-spaced :
+    (l : List ℕ) (more left i : ℕ) (r : Spelt)
+    → 0 < more
+    → 0 < left
+    → StoredAt l i r
+    → i < r .end
+    → Moves step tell l (spot more left) i (signed (r .stored) ++ (separator left ∷ [])) (spot more (left - 1)) (r .end)
+spot-spaced l more left i r m z f h =
+    let e : spot (rowsLeft more left) (leftAfter left) ≡ spot more (left - 1) = simp (ne-eqb left 0 (omega arith)) in
+    rw e at (spot-moves l more left i r m f h)
 
 -- the row count, which is not that of -1
 pub count-moves :

@@ -83,3 +83,64 @@ pub(crate) fn number_at(listing: &[u8], at: usize, sep: u8) -> Spelt
     }
     Spelt { stored: 0, end: 0 }
 }
+
+fn is_digit(b: u8) -> bool
+    ensures { λ r. ⌜ (r ≡ true → (48 ≤ b) × (b < 58)) ⌝ }
+{
+    if b < 48 {
+        return false;
+    }
+    b < 58
+}
+
+// Two digits at a place, of which the first is not 0.
+fn pair(a: u8, b: u8) -> bool
+    ensures { λ r. ⌜ (r ≡ true → (49 ≤ a) × (a < 58) × (48 ≤ b) × (b < 58)) ⌝ }
+{
+    if a < 49 {
+        return false;
+    }
+    if 57 < a {
+        return false;
+    }
+    is_digit(b)
+}
+
+// The number at a place that a byte ends, if it has one digit or two or is -1, as most are. So short, this is inlined where it is called.
+pub(crate) fn short_at(listing: &[u8], at: usize, sep: u8) -> Spelt
+    requires { ⌜ at ≤ length (now listing) ⌝ }
+    ensures { λ r. ⌜ SpeltAt (now (listing .entry)) at sep r ⌝ }
+{
+    if listing.len() - at < 3 {
+        return Spelt { stored: 0, end: 0 };
+    }
+    let a = listing[at];
+    let b = listing[at + 1];
+    if b == sep {
+        if is_digit(a) {
+            return Spelt {
+                stored: (a - 47) as usize,
+                end: at + 2,
+            };
+        }
+        return Spelt { stored: 0, end: 0 };
+    }
+    if listing[at + 2] != sep {
+        return Spelt { stored: 0, end: 0 };
+    }
+    if pair(a, b) {
+        return Spelt {
+            stored: (a - 48) as usize * 10 + (b - 48) as usize + 1,
+            end: at + 3,
+        };
+    }
+    if a == 45 {
+        if b == 49 {
+            return Spelt {
+                stored: 0,
+                end: at + 3,
+            };
+        }
+    }
+    Spelt { stored: 0, end: 0 }
+}

@@ -4,16 +4,15 @@ use super::Front;
 use super::Spelt;
 use super::numbers;
 use super::of_packed;
-use super::rows;
 ghost use mathlib.Core.Path.{_≡_};
 ghost use Prim.Native.Nat.{_+_, _^_, _≤_, _<_};
-ghost use lib.ListN.{length, drop};
+ghost use lib.ListN.{length, drop, getD};
 ghost use lib.Seq.{sets};
 ghost use Rattle.listing.proofs.Left.{Left};
 ghost use Rattle.packed.specs.declared.Packed.the-variants.{At};
 ghost use Rattle.packed.specs.declared.Place.the-variants.{Count};
 ghost use Rattle.packed.specs.Machine.{told};
-ghost use Rattle.packed.specs.Moves.{Counted, StoredAt, spot, rowsLeft};
+ghost use Rattle.packed.specs.Moves.{Counted, StoredAt, spot};
 ghost use Rattle.packed.specs.Packed.{step, tell};
 
 // A number of several groups.
@@ -45,6 +44,27 @@ fn several(packed: &[u8], at: usize) -> Spelt
     Spelt { stored: 0, end: 0 }
 }
 
+// A number of two groups or more.
+fn longer(packed: &[u8], at: usize) -> Spelt
+    requires { ⌜ (at < length (now packed)) × (128 ≤ getD (now packed) at 0) ⌝ }
+    ensures { λ r. ⌜ StoredAt (now (packed .entry)) at r ⌝ }
+{
+    if packed.len() - at < 2 {
+        return Spelt { stored: 0, end: 0 };
+    }
+    let b = packed[at + 1];
+    if b == 0 {
+        return Spelt { stored: 0, end: 0 };
+    }
+    if b < 128 {
+        return Spelt {
+            stored: (packed[at] % 128) as usize + b as usize * 128,
+            end: at + 2,
+        };
+    }
+    several(packed, at)
+}
+
 // The number at a place: most are of one group.
 pub(crate) fn number_at(packed: &[u8], at: usize) -> Spelt
     ensures { λ r. ⌜ StoredAt (now (packed .entry)) at r ⌝ }
@@ -59,17 +79,37 @@ pub(crate) fn number_at(packed: &[u8], at: usize) -> Spelt
             end: at + 1,
         };
     }
-    several(packed, at)
+    longer(packed, at)
 }
 
-fn rows_left(more: usize, left: usize) -> usize
-    requires { ⌜ 0 < more ⌝ }
-    ensures { λ r. ⌜ r ≡ rowsLeft more left ⌝ }
+// The numbers of a row but its last: how far they go, and how many bytes are told by then.
+fn spaced_size(packed: &[u8], more: usize, size: usize, at: usize, room: usize) -> Front
+    requires { ⌜ (room < 2 ^ 63) × (0 < more) × Counted step tell (now packed) room (At Count 0 0) (spot more 8) size at ⌝ }
+    ensures { λ r. ⌜ Counted step tell (now (packed .entry)) room (At Count 0 0) (spot (r .rows) (r .left)) (r .told) (r .end) × (r .rows ≡ more) × (at ≤ r .end) ⌝ }
 {
-    if left == 0 {
-        return more - 1;
+    let mut left = 8;
+    let mut sum = size;
+    let mut i = at;
+    while 0 < left {
+        let n = number_at(packed, i);
+        if n.end <= i {
+            return Front {
+                rows: more,
+                left,
+                told: sum,
+                end: i,
+            };
+        }
+        sum = numbers::capped(sum, listing::ended_size(n.stored), room);
+        left -= 1;
+        i = n.end;
     }
-    more
+    Front {
+        rows: more,
+        left,
+        told: sum,
+        end: i,
+    }
 }
 
 // How far the rows go, and how many bytes they tell, where so many rows begin at a place.
@@ -78,42 +118,38 @@ pub(crate) fn measure(packed: &[u8], count: usize, at: usize, room: usize) -> Fr
     ensures { λ r. ⌜ Counted step tell (now (packed .entry)) room (At Count 0 0) (spot (r .rows) (r .left)) (r .told) (r .end) ⌝ }
 {
     let mut more = count;
-    let mut left = 8;
     let mut size = 0;
     let mut i = at;
     while 0 < more {
-        let n = number_at(packed, i);
-        if n.end <= i {
-            return Front {
-                rows: more,
-                left,
-                told: size,
-                end: i,
-            };
+        let front = spaced_size(packed, more, size, i, room);
+        if 0 < front.left {
+            return front;
         }
-        size = numbers::capped(size, listing::ended_size(n.stored), room);
-        more = rows_left(more, left);
-        left = rows::left_after(left);
+        let n = number_at(packed, front.end);
+        if n.end <= front.end {
+            return front;
+        }
+        size = numbers::capped(front.told, listing::ended_size(n.stored), room);
+        more -= 1;
         i = n.end;
     }
     Front {
         rows: more,
-        left,
+        left: 8,
         told: size,
         end: i,
     }
 }
 
-// What the rows tell, from the front on.
-pub(crate) fn write(packed: &[u8], out: &mut [u8], count: usize, at: usize) -> Front
-    requires { ⌜ (length (told step tell (spot count 8) (drop at (now packed))) ≤ length (now out)) × (at ≤ length (now packed)) ⌝ }
-    ensures { λ r. ⌜ Left (now (out .exit)) (r .told) (told step tell (spot (r .rows) (r .left)) (drop (r .end) (now (packed .entry)))) (sets (now (out .entry)) 0 (told step tell (spot count 8) (drop at (now (packed .entry))))) (0 + length (told step tell (spot count 8) (drop at (now (packed .entry))))) (length (now (out .entry))) × (r .end ≤ length (now (packed .entry))) ⌝ }
+// The numbers of a row but its last, with a space after each, from a place on.
+fn put_spaced(packed: &[u8], out: &mut [u8], more: usize, at: usize, from: usize) -> Front
+    requires { ⌜ (at + length (told step tell (spot more 8) (drop from (now packed))) ≤ length (now out)) × (0 < more) × (from ≤ length (now packed)) ⌝ }
+    ensures { λ r. ⌜ Left (now (out .exit)) (r .told) (told step tell (spot (r .rows) (r .left)) (drop (r .end) (now (packed .entry)))) (sets (now (out .entry)) at (told step tell (spot more 8) (drop from (now (packed .entry))))) (at + length (told step tell (spot more 8) (drop from (now (packed .entry))))) (length (now (out .entry))) × (r .end ≤ length (now (packed .entry))) × (r .rows ≡ more) × (from ≤ r .end) ⌝ }
 {
-    let mut more = count;
     let mut left = 8;
-    let mut to = 0;
-    let mut i = at;
-    while 0 < more {
+    let mut to = at;
+    let mut i = from;
+    while 0 < left {
         let n = number_at(packed, i);
         if n.end <= i {
             return Front {
@@ -124,13 +160,41 @@ pub(crate) fn write(packed: &[u8], out: &mut [u8], count: usize, at: usize) -> F
             };
         }
         to = listing::put_ended(out, to, n.stored, left);
-        more = rows_left(more, left);
-        left = rows::left_after(left);
+        left -= 1;
         i = n.end;
     }
     Front {
         rows: more,
         left,
+        told: to,
+        end: i,
+    }
+}
+
+// What the rows tell, from the front on.
+pub(crate) fn write(packed: &[u8], out: &mut [u8], count: usize, at: usize) -> Front
+    requires { ⌜ (length (told step tell (spot count 8) (drop at (now packed))) ≤ length (now out)) × (at ≤ length (now packed)) ⌝ }
+    ensures { λ r. ⌜ Left (now (out .exit)) (r .told) (told step tell (spot (r .rows) (r .left)) (drop (r .end) (now (packed .entry)))) (sets (now (out .entry)) 0 (told step tell (spot count 8) (drop at (now (packed .entry))))) (0 + length (told step tell (spot count 8) (drop at (now (packed .entry))))) (length (now (out .entry))) × (r .end ≤ length (now (packed .entry))) ⌝ }
+{
+    let mut more = count;
+    let mut to = 0;
+    let mut i = at;
+    while 0 < more {
+        let front = put_spaced(packed, out, more, to, i);
+        if 0 < front.left {
+            return front;
+        }
+        let n = number_at(packed, front.end);
+        if n.end <= front.end {
+            return front;
+        }
+        to = listing::put_ended(out, front.told, n.stored, 0);
+        more -= 1;
+        i = n.end;
+    }
+    Front {
+        rows: more,
+        left: 8,
         told: to,
         end: i,
     }

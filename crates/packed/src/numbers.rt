@@ -7,16 +7,14 @@ ghost use Rattle.listing.specs.Number.{groups};
 
 // A sum that stops one past the room: a listing's text can be longer than any run of bytes.
 pub(crate) fn capped(n: usize, more: usize, room: usize) -> usize
-    requires { ⌜ room < 2 ^ 63 ⌝ }
+    requires { ⌜ (room < 2 ^ 63) × (n + more < 2 ^ 64) ⌝ }
     ensures { λ r. ⌜ r ≡ min (n + more) (room + 1) ⌝ }
 {
-    if room < more {
+    let sum = n + more;
+    if room < sum {
         return room + 1;
     }
-    if room - more < n {
-        return room + 1;
-    }
-    n + more
+    sum
 }
 
 // How many groups a number takes.

@@ -1,4 +1,4 @@
--- `listing::put_signed` meets its contract: `-1` byte by byte, or the digits of one less, of which one is put at once. Assumes nothing.
+-- `listing::put_signed` meets its contract: `-1` byte by byte, or the digits of one less, of which one or two are put at once. Assumes nothing.
 use mathlib.Core.Path.{ap, _∙_}
 use mathlib.Core.List.{[], _∷_}
 use borrow.Author.Needs.{needs}
@@ -24,7 +24,15 @@ put-signed-spec =
     (λ c κs. omega (arith, ap length (signed-digit (c .before .before .if1 .left) (c .before .if2 .taken)), c .before .before .before .before .pre))  -- put-requires-3
     (λ c. c .before .before .put3 .kept .0)  -- same-length-2
     (λ c. rw (signed-digit (c .before .before .before .before .before .if1 .left) (c .before .before .before .before .if2 .taken)) (c .before .before .put3 .ensures))  -- returns-2
+    (λ c. search needs)  -- sub-put-two
+    (λ c κs. (
+      omega (arith, c .before .before .if2 .left),
+      omega (arith, c .before .if3 .taken),
+      rw (signed-some (c .before .before .before .if1 .left)) at (c .before .before .before .before .before .pre),
+    ))  -- put-two-requires
+    (λ c. c .before .before .put-two .kept .0)  -- same-length-3
+    (λ c. rw (signed-some (c .before .before .before .before .before .before .if1 .left)) (c .before .before .put-two .ensures))  -- returns-3
     (λ c. search needs)  -- sub-put-decimal
-    (λ c κs. rw (signed-some (c .before .before .if1 .left)) at (c .before .before .before .before .pre))  -- put-decimal-requires
-    (λ c. search needs)  -- same-length-3
-    (λ c. rw (signed-some (c .before .before .before .before .before .if1 .left)) (c .before .before .put-decimal .ensures)))  -- returns-3
+    (λ c κs. rw (signed-some (c .before .before .before .if1 .left)) at (c .before .before .before .before .before .pre))  -- put-decimal-requires
+    (λ c. search needs)  -- same-length-4
+    (λ c. rw (signed-some (c .before .before .before .before .before .before .if1 .left)) (c .before .before .put-decimal .ensures)))  -- returns-4

@@ -1,11 +1,14 @@
 -- `packed::pack` meets its contract: the verdict of the counting pass, the room, or what the writing pass leaves. Assumes nothing.
 use mathlib.Core.Path.{ap, sym, _∙_}
+use Prim.Native.Nat.{_^_, _<_}
 use native.Mathlib.Omega.{arith}
+use lib.ListN.{length}
 use borrow.Author.Needs.{needs}
 use Rattle.packed.specs.declared.Text.the-variants.{Line}
 use Rattle.packed.specs.Machine.{after, told}
 use Rattle.listing.specs.Number.{groups}
 use Rattle.packed.specs.Text.{step, tell, verdict, count, textVerdict, textPacked}
+use Rattle.packed.proofs.Groups.{groups-few}
 use Rattle.packed.proofs.Answers.{refuses, overflows, converts, over, exact, parts}
 use Rattle.packed.proofs.pack.Statement.{statement}
 use Rattle.packed.proofs.pack.Tie as tie
@@ -21,7 +24,9 @@ pack-spec =
     refuses (textVerdict l) (textPacked l) (c .before .before .before .before .before .args .out .now) (c .before .verdict-of .ensures ∙ ap verdict (c .before .before .measure .ensures .0)) (c .if1 .taken))  -- returns
     (λ c κs. search needs)  -- count-of-requires
     (λ c κs. search needs)  -- groups-size-requires
-    (λ c κs. search needs)  -- capped-requires
+    (λ c κs.
+    let h : length (c .before .before .before .before .before .before .before .args .out .now) < 2 ^ 63 = search needs in
+    (h, omega (arith, h, c .groups-size .ensures, groups-few (c .before .count-of .result), c .before .before .before .before .measure .ensures .1)))  -- capped-requires
     (λ c.
     let l = c .before .before .before .before .before .before .before .before .before .args .listing .now in
     let k = c .before .before .before .count-of .ensures ∙ ap count (c .before .before .before .before .before .before .measure .ensures .0) in

@@ -17,5 +17,5 @@ number-at-spec =
     let s = c .before .before .before .before in
     running-ends (s .args .packed .now) (s .args .at) (running-none (s .args .packed .now) (s .args .at)) (c .before .before .if1 .left)
     (group-single (getD (s .args .packed .now) (s .args .at) 0) (c .if2 .taken)))  -- returns-2
-    (λ c κs. search needs)  -- several-requires
-    (λ c. c .several .ensures))  -- returns-3
+    (λ c κs. (c .before .before .if1 .left, c .if2 .left))  -- longer-requires
+    (λ c. c .longer .ensures))  -- returns-3

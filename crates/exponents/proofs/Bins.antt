@@ -1,6 +1,7 @@
 -- The bins of a set of exponents: an exponent stands for 1, 2 or 4 of them, and the groups end within the 256 of a row. Assumes nothing.
 use Prim.Native.Nat.{ℕ, zero, suc, _+_, _*_, _-_, _/_, _<_, _≤_}
 use native.Mathlib.Nat.{mul-le-mul-right, suc-mul}
+use native.Mathlib.Numerals.{add-one}
 use native.Mathlib.Omega.{arith}
 use mathlib.Core.Path.{_≡_, refl}
 use mathlib.Core.Bool.{Bool, true, false, cond, _||_, true≢false}
@@ -53,6 +54,10 @@ within slot strategy start end h i k = go (eqb slot CPL) (eqb slot LFE) (binsEac
 -- each group fits where all do
 pub group-fits : (first n count width : ℕ) → n < count → first + count * width ≤ 256 → first + n * width + width ≤ 256
 group-fits first n count width h k = omega (arith, mul-le-mul-right width h, suc-mul n width)
+
+-- the next begins where it ends
+pub next-bin : (first n width : ℕ) → first + n * width + width ≡ first + (n + 1) * width
+next-bin first n width = rw (add-one n) (omega (arith, suc-mul n width))
 
 -- and has a number below 255, which stands for no part
 pub group-numbered : (first n strategy : ℕ) → strategy < 4 → first + n * (3 * binsEach strategy) + 3 * binsEach strategy ≤ 256 → n < 255

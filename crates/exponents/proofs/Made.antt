@@ -2,7 +2,7 @@
 use mathlib.Core.Bool.{Bool, true, false, cond}
 use mathlib.Core.List.{List}
 use mathlib.Core.Path.{_≡_}
-use Prim.Native.Nat.{ℕ, _<_}
+use Prim.Native.Nat.{ℕ, _+_, _*_, _<_}
 use native.Mathlib.Omega.{arith}
 use lib.Dec.{ltb}
 use lib.IntN.{ℤ}
@@ -38,12 +38,13 @@ unfolding _>>=_
 or-made {a = a} {s = s} {room = room} true j = then (λ _. done a) (j .reads s room) finished
 or-made {a = a} {s = s} {room = room} false j = then (λ _. done a) (j .reads s room) finished
 
-pub of-group : (item : ℕ → Item) (bins first n : ℕ) (u : Unpacked) {number : ℕ} {made : Unpacked} {bad : Bool} {s : List ℕ} {c d e : Cursor} {before after : List ℤ}
+pub of-group : (item : ℕ → Item) (bins first n : ℕ) (u : Unpacked) {at number : ℕ} {made : Unpacked} {bad : Bool} {s : List ℕ} {c d e : Cursor} {before after : List ℤ}
+    → at ≡ first + n * (3 * bins)
     → Reads (take (item n) 7) s c before number d after
-    → ofNumber bins first n u number ≡ cond bad (refuse (fault number)) (done made)
+    → ofNumber bins at u number ≡ cond bad (refuse (fault number)) (done made)
     → Judged bad (fault number) d e
     → Reads (group item bins first n u) s c before made e after
 unfolding group
-of-group item bins first n u {number} {made} {bad} {s} {c} {d} {e} {before} {after} read is j =
-    let rest : Reads (ofNumber bins first n u number) s d after made e after = rw is (or-made bad j) in
-    then _ read rest
+of-group item bins first n u {at} {number} {made} {bad} {s} {c} {d} {e} {before} {after} bin read is j =
+    let rest : Reads (ofNumber bins at u number) s d after made e after = rw is (or-made bad j) in
+    then _ read (rw bin at rest)

@@ -2,6 +2,7 @@
 // group's number alone.
 use crate::groups::GroupRead;
 use crate::groups::Grouping;
+use crate::groups::bins_each;
 use crate::groups::unpack_group;
 use crate::unpack::fault;
 use crate::unpack::steps;
@@ -108,10 +109,12 @@ pub(crate) fn groups_at_hand(
     ensures { λ r. ⌜ SoundUnpacked (record { last = r .last; row = now (row .exit) }) ⌝ }
 {
     let steps = steps();
+    let width = 3 * bins_each(set.strategy);
     let mut exponent = last;
+    let mut at = set.first;
     for n in 0..count {
         let value = take_group(s, rows, c, set, n);
-        let made = unpack_group(row, &steps, set, n, exponent, value);
+        let made = unpack_group(row, &steps, set.strategy, at, exponent, value);
         exponent = made.last;
         if made.bad {
             return GroupRead {
@@ -119,6 +122,7 @@ pub(crate) fn groups_at_hand(
                 cursor: halt(past(past(c, n), 1), fault(value)),
             };
         }
+        at += width;
     }
     GroupRead {
         last: exponent,

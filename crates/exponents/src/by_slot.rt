@@ -12,9 +12,12 @@ use syntax::items::nth;
 use syntax::names;
 use syntax::refusals::NO_CHANNEL_EXPONENTS;
 ghost use mathlib.Core.Path.{_≡_};
+ghost use mathlib.Core.Bool.{cond};
 ghost use Prim.Native.Nat.{_<_};
 ghost use Rattle.syntax.specs.Grammar.{readIf};
 ghost use Rattle.syntax.specs.Reads.{Reads};
+ghost use Rattle.slots.specs.Slots.{isNew};
+ghost use Rattle.slots.specs.declared.Cover.{Cover};
 ghost use Rattle.slots.specs.Sound.{SoundExps, SoundStrategies, SoundEnds};
 ghost use Rattle.exponents.specs.Exponents as grammar;
 ghost use Rattle.slots.specs.Reused.{Keeps, ReusedBut, ReusedBy};
@@ -28,11 +31,14 @@ fn covers(cover: Cover, set: Set) -> bool
     cover.sent[at] && (cover.start[at] as usize == set.start && cover.end[at] as usize == set.end)
 }
 
-// Exponents of these bins were sent.
+// The bins that are covered once a set was read: those of the set where its exponents are new.
 fn covering(set: Set, cover: Cover) -> Cover
     requires { ⌜ (set .slot < 7) × ((set .start < 254) × (set .end < 254)) ⌝ }
-    ensures { λ r. ⌜ r ≡ grammar.covering (set .slot) (set .start) (set .end) cover ⌝ }
+    ensures { λ r. ⌜ r ≡ cond (isNew (set .strategy)) (grammar.covering (set .slot) (set .start) (set .end) cover) cover ⌝ }
 {
+    if set.strategy == 0 {
+        return cover;
+    }
     let at = set.slot as usize;
     let mut next = cover;
     next.sent[at] = true;
@@ -41,7 +47,8 @@ fn covering(set: Set, cover: Cover) -> Cover
     next
 }
 
-// New exponents of a slot, or those in force: a refusal where these cover other bins.
+// New exponents of a slot, or those in force: a refusal where these cover other bins. The cover is not handed in, only what it says of the
+// set.
 fn slot_exponents(
     s: &[u8],
     rows: &mut [i32],
@@ -49,26 +56,22 @@ fn slot_exponents(
     exps: &mut [[i16; 256]; 7],
     set: Set,
     refusal: Refusal,
-    cover: Cover,
-) -> ExponentsRead
+    covered: bool,
+) -> Cursor
     requires { ⌜ (0 < refusal .number) × (set .slot < 7) ⌝ }
     requires { ⌜ (set .strategy < 4) × ((set .start < 254) × (set .end < 254)) ⌝ }
     requires { ⌜ SoundExps (now exps) ⌝ }
-    ensures { λ r. ⌜ Reads (grammar.slotExponents (set .blk) refusal (set .slot) (set .strategy) (set .start) (set .end) (record { cover = cover; exps = now (exps .entry) })) (now (s .entry)) c (now (rows .entry))
-        (record { cover = r .cover; exps = now (exps .exit) }) (r .cursor) (now (rows .exit)) ⌝ }
+    ensures { λ r. ⌜ ((cover : Cover) → covered ≡ grammar.covers cover (set .slot) (set .start) (set .end)
+        → Reads (grammar.slotExponents (set .blk) refusal (set .slot) (set .strategy) (set .start) (set .end) (record { cover = cover; exps = now (exps .entry) })) (now (s .entry)) c (now (rows .entry))
+        (record { cover = cond (isNew (set .strategy)) (grammar.covering (set .slot) (set .start) (set .end) cover) cover; exps = now (exps .exit) }) r (now (rows .exit))) ⌝ }
     ensures { λ _. ⌜ SoundExps (now (exps .exit)) ⌝ }
     ensures { λ _. ⌜ Keeps (ReusedBut (set .slot) (set .strategy)) (now (exps .entry)) (now (exps .exit)) ⌝ }
 {
     if set.strategy == 0 {
-        let cursor = refuse_if(c, !covers(cover, set), refusal);
-        return ExponentsRead { cover, cursor };
+        return refuse_if(c, !covered, refusal);
     }
     let at = set.slot as usize;
-    let cursor = exponent_set(s, rows, c, &mut exps[at], set);
-    ExponentsRead {
-        cover: covering(set, cover),
-        cursor,
-    }
+    exponent_set(s, rows, c, &mut exps[at], set)
 }
 
 // The same of a slot that is there only where a test holds.
@@ -92,7 +95,11 @@ pub(crate) fn slot_exponents_if(
     ensures { λ _. ⌜ Keeps (ReusedBut (set .slot) (set .strategy)) (now (exps .entry)) (now (exps .exit)) ⌝ }
 {
     if present {
-        return slot_exponents(s, rows, c, exps, set, refusal, cover);
+        let cursor = slot_exponents(s, rows, c, exps, set, refusal, covers(cover, set));
+        return ExponentsRead {
+            cover: covering(set, cover),
+            cursor,
+        };
     }
     ExponentsRead { cover, cursor: c }
 }
@@ -125,15 +132,25 @@ pub(crate) fn channel_exponents(
         start: 0,
         end: ends[at],
     };
-    let e = slot_exponents(s, rows, c, exps, set, NO_CHANNEL_EXPONENTS, cover);
+    let e = slot_exponents(
+        s,
+        rows,
+        c,
+        exps,
+        set,
+        NO_CHANNEL_EXPONENTS,
+        covers(cover, set),
+    );
     let cursor = note_if(
         s,
         rows,
-        e.cursor,
+        e,
         strategy != 0,
         nth(layout.blk, names::GAINRNG, ch),
         2,
     );
-    let cover = e.cover;
-    ExponentsRead { cover, cursor }
+    ExponentsRead {
+        cover: covering(set, cover),
+        cursor,
+    }
 }

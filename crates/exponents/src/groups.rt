@@ -80,20 +80,20 @@ pub(crate) struct Made {
     pub(crate) bad: bool,
 }
 
-// The exponents of group number n, into the row.
+// The exponents of a group, into the row from bin `at` on.
 pub(crate) fn unpack_group(
     row: &mut [i16; 256],
     steps: &[u32; 128],
-    set: Grouping,
-    n: usize,
+    strategy: u8,
+    at: usize,
     last: u32,
     group: u32,
 ) -> Made
-    requires { ⌜ (set .strategy < 4) × (group < 128) ⌝ }
-    requires { ⌜ set .first + n * (3 * grammar.binsEach (set .strategy)) + 3 * grammar.binsEach (set .strategy) ≤ 256 ⌝ }
+    requires { ⌜ (strategy < 4) × (group < 128) ⌝ }
+    requires { ⌜ at + 3 * grammar.binsEach strategy ≤ 256 ⌝ }
     requires { ⌜ SoundUnpacked (record { last = last; row = now row }) ⌝ }
     requires { ⌜ Steps (now steps) ⌝ }
-    ensures { λ r. ⌜ made.ofNumber (grammar.binsEach (set .strategy)) (set .first) n (record { last = last; row = now (row .entry) }) group
+    ensures { λ r. ⌜ made.ofNumber (grammar.binsEach strategy) at (record { last = last; row = now (row .entry) }) group
         ≡ cond (r .bad) (refuse (made.fault group)) (done (record { last = r .last; row = now (row .exit) })) ⌝ }
     ensures { λ r. ⌜ SoundUnpacked (record { last = r .last; row = now (row .exit) }) ⌝ }
 {
@@ -101,8 +101,7 @@ pub(crate) fn unpack_group(
     if three.bad {
         return Made { last: 0, bad: true };
     }
-    let at = set.first + n * (3 * bins_each(set.strategy));
-    spread(row, at, set.strategy, three);
+    spread(row, at, strategy, three);
     Made {
         last: three.z,
         bad: false,
@@ -133,12 +132,14 @@ pub(crate) fn groups(
     ensures { λ r. ⌜ SoundUnpacked (record { last = r .last; row = now (row .exit) }) ⌝ }
 {
     let steps = steps();
+    let width = 3 * bins_each(set.strategy);
     let mut exponent = last;
     let mut cursor = c;
     for n in 0..count {
         let item = part_of(set.blk, set.name, set.index, n as u8);
         let grouped = take(s, rows, cursor, item, 7);
-        let made = unpack_group(row, &steps, set, n, exponent, grouped.value);
+        let at = set.first + n * width;
+        let made = unpack_group(row, &steps, set.strategy, at, exponent, grouped.value);
         exponent = made.last;
         cursor = refuse_if(grouped.cursor, made.bad, fault(grouped.value));
         if cursor.stop.number != 0 {

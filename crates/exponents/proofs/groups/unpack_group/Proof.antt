@@ -13,18 +13,16 @@ bad c =
 
 fits : tie.Need-spread-requires
 fits c κs =
-    let b = c .before .before in
-    let u = b .before .before in
+    let u = c .before .before in
     let pre = u .before .pre in
-    ((pre .0 .0, rw (b .bins-each .ensures) (pre .1 .0)), (u .unpack .ensures .1, pre .1 .1 .0 .row))
+    ((pre .0 .0, pre .1 .0), (u .unpack .ensures .1, pre .1 .1 .0 .row))
 
 good : tie.Need-returns-2
 unfolding _>>=_
 good c =
-    let b = c .before .before .before in
-    let e = b .before in
+    let e = c .before .before in
     let u = e .before in
-    (rw (u .unpack .ensures .0, e .if1 .left, c .spread .ensures .0, b .bins-each .ensures), record { last = omega (arith, u .unpack .ensures .1); row = c .spread .ensures .1 })
+    (rw (u .unpack .ensures .0, e .if1 .left, c .spread .ensures .0), record { last = omega (arith, u .unpack .ensures .1); row = c .spread .ensures .1 })
 
 pub unpack-group-spec : {M : Type 1} → statement M
 unpack-group-spec =
@@ -32,9 +30,5 @@ unpack-group-spec =
     (tie.spec
     (λ c κs. search needs)  -- unpack-requires
     bad
-    (λ c κs. search needs)  -- bins-each-requires
-    (λ c. search needs)  -- mul-at
-    (λ c. rw (c .bins-each .ensures) (omega arith))  -- mul-at-2
-    (λ c. rw (c .before .bins-each .ensures) (omega arith))  -- add-at
     fits
     good)

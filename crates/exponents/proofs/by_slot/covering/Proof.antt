@@ -11,8 +11,8 @@ covering-spec =
     (λ c. rw (eq-eqb _ 0 (c .if1 .taken)))  -- returns
     (λ c. search needs)  -- cast-at
     (λ c. search needs)  -- element-write-next
-    (λ c. search needs)  -- mul-next
+    (λ c. search needs)  -- cast-next
     (λ c. search needs)  -- element-write-next-2
-    (λ c. search needs)  -- mul-next-2
+    (λ c. search needs)  -- cast-next-2
     (λ c. search needs)  -- element-write-next-3
-    (λ c. rw (ne-eqb _ 0 (c .before .if1 .left))))  -- returns-2
+    (λ c. rw (ne-eqb _ 0 (c .before .before .before .if1 .left))))  -- returns-2

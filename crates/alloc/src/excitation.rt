@@ -3,14 +3,14 @@ use crate::Gains;
 use crate::Leak;
 use crate::Parameters;
 ghost use mathlib.Core.Path.{_≡_};
-ghost use Prim.Native.Nat.{ℕ, _≤_, _<_};
+ghost use Prim.Native.Nat.{ℕ, _-_, _≤_, _<_};
 ghost use lib.IntN.{pos};
 ghost use lib.ListN.{length};
 ghost use Rattle.signed.specs.Bound.{Below};
 ghost use Rattle.alloc.specs.Allocation.{at, lowcomp, lfeLast, lowAfter, rises, fallTo, startsAnew, startLeak, fallBy, leakStep, leakBefore};
 ghost use Rattle.alloc.specs.Sound.{SoundParameters, Bounded};
 ghost use Rattle.alloc.specs.Fills.{Fills};
-ghost use Rattle.alloc.specs.Leaks.{exciteAt};
+ghost use Rattle.alloc.specs.Leaks.{leakAfter, exciteAt};
 
 // The low frequency compensation.
 fn calc_lowcomp(a: i32, b0: i32, b1: i32, bin: usize) -> i32
@@ -108,21 +108,60 @@ fn starts_anew(band: usize, risen: bool) -> bool
     band < 7 && !risen
 }
 
-// One band. From band 22 on there is no compensation, and the leaks merely fall.
+// One band below 22.
 fn leak_step(g: Gains, bands: &[i32; 50], count: usize, band: usize, l: Leak) -> Leak
-    requires { ⌜ (band < 50) × Bounded l × ((k : ℕ) → Below 15 (at (now bands) k)) ⌝ }
+    requires { ⌜ (band < 22) × Bounded l × ((k : ℕ) → Below 15 (at (now bands) k)) ⌝ }
     ensures { λ r. ⌜ r ≡ leakStep g (at (now (bands .entry))) count band l ⌝ }
 {
     let here = bands[band];
-    if 22 <= band {
-        return fall_leak(g, here, l.low, 0, l);
-    }
     let low = low_after(bands, count, band, l.low);
     let risen = l.risen;
     if starts_anew(band, risen) {
         return start_leak(g, here, low, is_rise(bands, count, band));
     }
     fall_leak(g, here, low, low, l)
+}
+
+// The excitation of bands below 22, and the state after them.
+fn low_excitations(
+    out: &mut [i32; 50],
+    g: Gains,
+    bands: &[i32; 50],
+    first: usize,
+    last: usize,
+    count: usize,
+    start: Leak,
+) -> Leak
+    requires { ⌜ (length (now out) ≡ 50) × (first ≤ last) × (last ≤ 50) × ((band : ℕ) → first ≤ band → band < last → band < 22) × Bounded start × ((k : ℕ) → Below 15 (at (now bands) k)) ⌝ }
+    ensures { λ r. ⌜ (r ≡ leakAfter g (at (now (bands .entry))) count first start (last - first)) × Fills (pos 0) first last (exciteAt g (at (now (bands .entry))) count first start) (now (out .entry)) (now (out .exit)) ⌝ }
+{
+    let mut leak = start;
+    for band in first..last {
+        leak = leak_step(g, bands, count, band, leak);
+        let excite = leak.excite;
+        out[band] = excite;
+    }
+    leak
+}
+
+// From band 22 on there is no compensation, and the leaks merely fall: a loop of its own, which carries only the two.
+fn high_excitations(
+    out: &mut [i32; 50],
+    g: Gains,
+    bands: &[i32; 50],
+    first: usize,
+    last: usize,
+    start: Leak,
+)
+    requires { ⌜ (length (now out) ≡ 50) × (first ≤ last) × (last ≤ 50) × ((band : ℕ) → first ≤ band → band < last → 22 ≤ band) × Bounded start × ((k : ℕ) → Below 15 (at (now bands) k)) ⌝ }
+    ensures { λ _. ⌜ Fills (pos 0) first last (exciteAt g (at (now (bands .entry))) last first start) (now (out .entry)) (now (out .exit)) ⌝ }
+{
+    let mut leak = start;
+    for band in first..last {
+        leak = fall_leak(g, bands[band], leak.low, 0, leak);
+        let excite = leak.excite;
+        out[band] = excite;
+    }
 }
 
 // The excitation of the bands from first up to last.
@@ -137,12 +176,9 @@ pub fn excitations(
     requires { ⌜ (length (now out) ≡ 50) × (first ≤ last) × (last ≤ 50) × Bounded start × ((k : ℕ) → Below 15 (at (now bands) k)) ⌝ }
     ensures { λ _. ⌜ Fills (pos 0) first last (exciteAt g (at (now (bands .entry))) last first start) (now (out .entry)) (now (out .exit)) ⌝ }
 {
-    let mut leak = start;
-    for band in first..last {
-        leak = leak_step(g, bands, last, band, leak);
-        let excite = leak.excite;
-        out[band] = excite;
-    }
+    let split = naturals::least(last, naturals::most(first, 22));
+    let leak = low_excitations(&mut *out, g, bands, first, split, last, start);
+    high_excitations(&mut *out, g, bands, split, last, leak);
 }
 
 // The state before the first band.

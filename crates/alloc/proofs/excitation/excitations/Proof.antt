@@ -1,89 +1,58 @@
--- `alloc::excitation::excitations` meets its contract. The loop's invariant: the excitation and the state are the definition's, up to `band`.
+-- `alloc::excitation::excitations` meets its contract: the bands below 22 and then those from 22 on, which go by the state that the first leave.
 -- Assumes nothing.
 use mathlib.Core.Path.{_≡_, _∙_}
-use Prim.Native.Nat.{ℕ, suc, _+_, _-_, _≤_, _<_, _^_}
+use Prim.Native.Nat.{ℕ, _-_, _<_, _^_, min, max}
 use native.Mathlib.Omega.{arith}
 use borrow.Author.Needs.{needs}
 use lib.IntN.{ℤ, pos}
-use mir.Syntax.{w32}
-use mir.Val.{toZ, ofZ}
-use Rattle.signed.specs.Bound.{Below}
-use Rattle.signed.proofs.Bounds.{back-32, below-more}
 use Rattle.alloc.specs.Allocation.{at}
 use Rattle.alloc.specs.Sound.{Bounded}
-use Rattle.alloc.specs.Fills.{Fills}
-use Rattle.alloc.specs.Leaks.{leakAfter, exciteAt}
-use Rattle.alloc.specs.declared.Leak.{Leak}
-use Rattle.alloc.proofs.Leaks.{after-bounded, excite-below}
-use Rattle.alloc.proofs.Filled.{fills-none, fills-set}
+use Rattle.alloc.proofs.Leaks.{after-bounded, excite-more}
+use Rattle.alloc.proofs.Filled.{fills-join, fills-same}
 use Rattle.alloc.proofs.excitation.excitations.Statement.{statement}
 use Rattle.alloc.proofs.excitation.excitations.Tie as tie
 
-abbrev Inv-loop : tie.InvT-loop
-Inv-loop out₀ g bands first last leak₀ band₀ out leak band =
-    (first ≤ band)
-    × (band ≤ last)
-    × (leak ≡ leakAfter g (at bands) last first leak₀ (band - first))
-    × Fills (pos 0) first band (exciteAt g (at bands) last first leak₀) out₀ out
+abbrev level : tie.Start → ℕ → ℤ
+level s = at (s .args .bands .now)
 
-abbrev μ-loop : tie.MeasureT-loop
-μ-loop out₀ g bands first last leak₀ band₀ out leak band = last - band
+split-is : (c : tie.After-least) → c .least .result ≡ min (c .before .before .args .last) (max (c .before .before .args .first) 22)
+split-is c = omega (arith, c .least .ensures, c .before .most .ensures)
 
--- the definition over the parameters
-module _ (s : tie.Start Inv-loop μ-loop) where
-  abbrev level : ℕ → ℤ
-  level = at (s .args .bands .now)
+-- the state after the bands below 22
+module _ (c : tie.After-low-excitations) where
+  abbrev begin : tie.Start
+  begin = c .before .before .before .before
 
-  abbrev after : ℕ → Leak
-  after = leakAfter (s .args .g) level (s .args .last) (s .args .first) (s .args .start)
+  abbrev split : ℕ
+  split = c .before .before .least .result
 
-  gains-fit : (s .args .g .fgain < 2 ^ 16) × (s .args .g .sgain < 2 ^ 16)
+  gains-fit : (begin .args .g .fgain < 2 ^ 16) × (begin .args .g .sgain < 2 ^ 16)
   gains-fit = omega arith
 
-  bounded : (n : ℕ) → Bounded (after n)
-  bounded = after-bounded (s .args .g) gains-fit level (s .pre .4) (s .args .last) (s .args .first) (s .args .start) (s .pre .3)
-
-  excite-small : (n : ℕ) → Below 18 (after (suc n) .excite)
-  excite-small = excite-below (s .args .g) gains-fit level (s .pre .4) (s .args .last) (s .args .first) (s .args .start) (s .pre .3)
-
--- the state after one more band
-stepped : (c : tie.After-leak-step Inv-loop μ-loop) → c .leak-step .result ≡ after (c .before .before .before) (suc (c .before .before .loop .band - c .before .before .before .args .first))
-unfolding leakAfter
-stepped c =
-    let s = c .before .before .before in
-    let here = c .before .before .loop in
-    let band : s .args .first + (here .band - s .args .first) ≡ here .band = omega arith in
-    c .leak-step .ensures ∙ rw (here .inv .2, band)
+  leak-bounded : Bounded (c .low-excitations .result)
+  leak-bounded =
+      rw (c .low-excitations .ensures .0)
+      (after-bounded (begin .args .g) gains-fit (level begin) (begin .pre .4) (begin .args .last) (begin .args .first) (begin .args .start) (begin .pre .3) (split - begin .args .first))
 
 pub excitations-spec : {M : Type 1} → statement M
-unfolding leakAfter
 excitations-spec =
     tie.close
     (tie.spec
-    Inv-loop
-    μ-loop
-    (λ c. let none : c .args .first - c .args .first ≡ 0 = omega arith in (search needs, search needs, rw none, fills-none _ _ _ _))
+    (λ c κs. search needs)
+    (λ c κs. search needs)
     (λ c κs.
-    let s = c .before .before in
-    let here = c .before .loop in
-    (omega arith, rw (here .inv .2) (bounded s (here .band - s .args .first)), s .pre .4))
-    (λ c. search needs)
-    (λ c. search needs)
-    (λ c. search needs)
-    (λ c. search needs)
+    let s = c .before .before .before in
+    let e = split-is (c .before) in
+    (s .pre .0, omega arith, omega arith, (λ band p q. omega arith), s .pre .3, s .pre .4))
+    (λ c κs.
+    let low = c .before in
+    let s = begin low in
+    let e = split-is (low .before .before) in
+    (low .low-excitations .ensures .1 .long ∙ s .pre .0, omega arith, s .pre .2, (λ band p q. omega arith), leak-bounded low, s .pre .4))
     (λ c.
-    let s = c .before .before .before .before in
-    let here = c .before .before .before .loop in
-    let more : here .band + 1 - s .args .first ≡ suc (here .band - s .args .first) = omega arith in
-    let next = stepped (c .before) in
-    let excite = after s (suc (here .band - s .args .first)) .excite in
-    let stored : toZ w32 (ofZ w32 (c .before .leak-step .result .excite)) ≡ excite =
-    rw next (back-32 excite (below-more {k = 31} (excite-small s (here .band - s .args .first)) tt .below)) in (
-      search needs,
-      search needs,
-      rw more next,
-      fills-set _ _ _ _ (here .out) (here .band) _ (omega arith) (omega (arith, here .inv .3 .long)) stored (here .inv .3),
-    ))
-    (λ c.
-    let end : c .before .loop .band ≡ c .before .before .args .last = omega arith in
-    rw end at (c .before .loop .inv .3)))
+    let low = c .before .before in
+    let s = begin low in
+    let e = split-is (low .before .before) in
+    fills-join _ _ _ _ _ (omega arith) (omega arith) (low .low-excitations .ensures .1)
+    (fills-same _ _ _ _ _ (λ band p q. excite-more (s .args .g) (level s) (s .args .last) (s .args .first) (split low) (s .args .start) (omega arith) band p)
+    (rw (low .low-excitations .ensures .0) at (c .high-excitations .ensures)))))

@@ -1,5 +1,4 @@
--- `alloc::excitation::leak_step` meets its contract: from band 22 on the step is a fall alone, and below it the code's three ways are the
--- definition's. Assumes nothing.
+-- `alloc::excitation::leak_step` meets its contract: the code's two ways are the definition's below band 22. Assumes nothing.
 use mathlib.Core.Path.{_≡_, _∙_, sym, subst}
 use mathlib.Core.Bool.{true, false, not}
 use Prim.Native.Nat.{ℕ}
@@ -15,7 +14,6 @@ use Rattle.signed.proofs.Bounds.{levels, back-32, below-read, below-is, below-l
 use Rattle.alloc.specs.Allocation.{at, lowAfter, startsAnew, fallLeak, leakStep}
 use store.Enc.{and-l}
 use Rattle.alloc.proofs.Bounded.{low-below}
-use Rattle.alloc.proofs.Leaks.{high-step}
 use Rattle.alloc.proofs.excitation.leak_step.Statement.{statement}
 use Rattle.alloc.proofs.excitation.leak_step.Tie as tie
 
@@ -33,7 +31,7 @@ module _ (c : tie.After-here) where
 -- the compensation likewise
 module _ (c : tie.After-low-after) where
   abbrev met : tie.After-here
-  met = c .before .before .before
+  met = c .before .before
 
   abbrev lowOf : ℤ
   lowOf = lowAfter (levelOf met) (met .before .args .count) (met .before .args .band) (met .before .args .l .low)
@@ -46,49 +44,35 @@ module _ (c : tie.After-low-after) where
   low-small : Below 9 (toZ w32 (ofZ w32 (c .low-after .result)))
   low-small = below-is low-is (low-below (levelOf met) _ _ _ (met .before .pre .1 .low))
 
--- from band 22 on
-fall-leak-requires : tie.Need-fall-leak-requires
-fall-leak-requires c κs =
-    let h = c .before .before in
-    (here-small h, below-read (h .before .pre .1 .low), below-lit tt, h .before .pre .1)
-
-returns : tie.Need-returns
-returns c =
-    let h = c .before .before .before in
-    let s = h .before in
-    let low = back-32 (s .args .l .low) (below-more {k = 31} (s .pre .1 .low) tt .below) in
-    rw (here-is h, low) at (c .fall-leak .ensures)
-    ∙ sym (high-step (s .args .g) (levelOf h) (s .args .count) (s .args .band) (s .args .l) (c .before .before .if1 .taken))
-
--- below it, where the leaks start anew
+-- where the leaks start anew
 is-rise-requires : tie.Need-is-rise-requires
 is-rise-requires c κs =
     let s = met (c .before .before) .before in
-    let anew : startsAnew (s .args .band) (s .args .l .risen) ≡ true = sym (c .before .starts-anew .ensures) ∙ c .if2 .taken in
+    let anew : startsAnew (s .args .band) (s .args .l .risen) ≡ true = sym (c .before .starts-anew .ensures) ∙ c .if1 .taken in
     omega (arith, ltb→lt (s .args .band) 7 (and-l (ltb (s .args .band) 7) (not (s .args .l .risen)) (subst T (sym anew) tt)))
 
 start-leak-requires : tie.Need-start-leak-requires
 start-leak-requires c κs = let low = c .before .before .before in (here-small (met low), low-small low)
 
-returns-2 : tie.Need-returns-2
+returns : tie.Need-returns
 unfolding leakStep
-returns-2 c =
+returns c =
     let low = c .before .before .before .before in
     let s = met low .before in
-    let anew : startsAnew (s .args .band) (s .args .l .risen) ≡ true = sym (c .before .before .before .starts-anew .ensures) ∙ c .before .before .if2 .taken in
+    let anew : startsAnew (s .args .band) (s .args .l .risen) ≡ true = sym (c .before .before .before .starts-anew .ensures) ∙ c .before .before .if1 .taken in
     rw anew (c .start-leak .ensures ∙ rw (here-is (met low), low-is low, c .before .is-rise .ensures))
 
 -- and where they fall
-fall-leak-requires-2 : tie.Need-fall-leak-requires-2
-fall-leak-requires-2 c κs = let low = c .before .before in (here-small (met low), low-small low, low-small low, met low .before .pre .1)
+fall-leak-requires : tie.Need-fall-leak-requires
+fall-leak-requires c κs = let low = c .before .before in (here-small (met low), low-small low, low-small low, met low .before .pre .1)
 
-returns-3 : tie.Need-returns-3
+returns-2 : tie.Need-returns-2
 unfolding leakStep fallLeak
-returns-3 c =
+returns-2 c =
     let low = c .before .before .before in
     let s = met low .before in
-    let later : startsAnew (s .args .band) (s .args .l .risen) ≡ false = sym (c .before .before .starts-anew .ensures) ∙ c .before .if2 .left in
-    rw (later, lt-ltb (s .args .band) 22 (low .before .before .if1 .left)) (rw (here-is (met low), low-is low) at (c .fall-leak2 .ensures))
+    let later : startsAnew (s .args .band) (s .args .l .risen) ≡ false = sym (c .before .before .starts-anew .ensures) ∙ c .before .if1 .left in
+    rw (later, lt-ltb (s .args .band) 22 (s .pre .0)) (rw (here-is (met low), low-is low) at (c .fall-leak .ensures))
 
 pub leak-step-spec : {M : Type 1} → statement M
 leak-step-spec =
@@ -96,12 +80,10 @@ leak-step-spec =
     (tie.spec
     (λ c. search needs)
     (λ c. search needs)
-    fall-leak-requires
-    returns
-    (λ c κs. let s = c .before .before .before in (c .before .if1 .left, below-read (s .pre .1 .low), s .pre .2))
+    (λ c κs. let s = c .before .before in (s .pre .0, below-read (s .pre .1 .low), s .pre .2))
     (λ c κs. search needs)
     is-rise-requires
     start-leak-requires
-    returns-2
-    fall-leak-requires-2
-    returns-3)
+    returns
+    fall-leak-requires
+    returns-2)

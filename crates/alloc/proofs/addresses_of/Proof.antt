@@ -5,11 +5,11 @@ use native.Mathlib.Omega.{arith}
 use borrow.Author.Needs.{needs}
 use lib.IntN.{ℤ}
 use Rattle.alloc.specs.Allocation.{at, psdAt, bandOf, addressOf}
-use Rattle.alloc.specs.Stages.{Limit, thresholdsOf}
+use Rattle.alloc.specs.Stages.{Limit, thresholdsOf, addressAt}
 use Rattle.alloc.specs.Band.{InBand}
 use Rattle.alloc.specs.declared.Parameters.{Parameters}
 use Rattle.alloc.proofs.BandEnds.{band-of, in-order}
-use Rattle.alloc.proofs.Filled.{fills-in}
+use Rattle.alloc.proofs.Filled.{fills-none, fills-same, fills-empty}
 use Rattle.alloc.proofs.Stages.{limited}
 use Rattle.alloc.proofs.addresses_of.Statement.{statement}
 use Rattle.alloc.proofs.addresses_of.Tie as tie
@@ -68,16 +68,22 @@ module _ (c : tie.After-by-bin) where
         rw limit-is
         (limited (begin .args .exponents .now) p (bandOf bin) (omega (arith, first-band ended .is)) (omega (arith, last-band ended .is)) (begin .pre .1 .floor))
 
+nothing : tie.Need-returns
+nothing c =
+    let a = c .before .args in
+    fills-empty 0 (addressAt (a .exponents .now) (a .p)) (a .p .start) (a .p .end) (omega (arith, c .if1 .taken)) (fills-none 0 _ _ (a .out .now))
+
 returns : tie.Need-returns-2
-returns c bin from to =
+returns c =
     let b = c .before .before .before in
-    fills-in (c .addresses .ensures) bin from to ∙ ap (addressOf (psdAt (begin b .args .exponents .now) bin)) (limit-is b bin from to)
+    let s = begin b in
+    fills-same 0 _ _ (s .args .p .start) (s .args .p .end) (λ bin from to. ap (addressOf (psdAt (s .args .exponents .now) bin)) (limit-is b bin from to)) (c .addresses .ensures)
 
 pub addresses-of-spec : {M : Type 1} → statement M
 addresses-of-spec =
     tie.close
     (tie.spec
-    (λ c bin from to. absurd (omega (arith, c .if1 .taken)))
+    nothing
     (λ c κs. search needs)
     (λ c κs. search needs)
     (λ c. search needs)

@@ -9,6 +9,7 @@ use Rattle.alloc.specs.Allocation.{psdAt, bandOf, bapOf}
 use Rattle.alloc.specs.Stages.{bapAt, thresholdsOf}
 use Rattle.alloc.proofs.Clamped.{address-below}
 use Rattle.alloc.proofs.Laws.{allocation-none}
+use Rattle.alloc.proofs.Filled.{fills-in}
 use Rattle.alloc.proofs.Stages.{pointers-are}
 use Rattle.alloc.proofs.Written.{fills-sets}
 use Rattle.alloc.proofs.pointers_by.Statement.{statement}
@@ -23,10 +24,10 @@ module _ (c : tie.After-addresses-of) where
     pointer-is : bapAt (begin .args .baps .now) (c .addresses-of .last .0) bin
         ≡ bapOf (begin .args .baps .now) (psdAt (begin .args .exponents .now) bin) (thresholdsOf (begin .args .exponents .now) (begin .args .p) (bandOf bin))
     unfolding bapOf
-    pointer-is = ap (λ (address : ℕ). getD (begin .args .baps .now) address 0) (c .addresses-of .ensures bin from to)
+    pointer-is = ap (λ (address : ℕ). getD (begin .args .baps .now) address 0) (fills-in (c .addresses-of .ensures) bin from to)
 
     address-small : getD (c .addresses-of .last .0) bin 0 < 64
-    address-small = rw (c .addresses-of .ensures bin from to) (address-below _ _)
+    address-small = rw (fills-in (c .addresses-of .ensures) bin from to) (address-below _ _)
 
 nothing : tie.Need-returns
 nothing c =

@@ -11,6 +11,7 @@ use Rattle.alloc.specs.Allocation.{from, bapOf}
 use Rattle.alloc.specs.Stages.{addressAt, bapAt}
 use Rattle.alloc.specs.declared.Parameters.{Parameters}
 use Rattle.alloc.proofs.Clamped.{address-below}
+use Rattle.alloc.proofs.Filled.{fills-in}
 use Rattle.alloc.proofs.Stages.{pointers-are}
 use Rattle.mantissas.specs.Counts.{noCounts, countedAll}
 use Rattle.mantissas.specs.Mantissas.{parametersOf, pointers}
@@ -30,7 +31,7 @@ module _ (c : tie.After-addresses-of) where
   by = parametersOf (start .args .by .fscod) (start .args .by .st) (start .args .p)
 
   address-is : (bin : ℕ) → start .args .p .start ≤ bin → bin < start .args .p .end → getD (c .addresses-of .last .0) bin 0 ≡ addressAt row by bin
-  address-is = rw (c .before .parameters-of .ensures .0) at (c .addresses-of .ensures)
+  address-is = fills-in (rw (c .before .parameters-of .ensures .0) at (c .addresses-of .ensures))
 
   pointers-here : from (start .args .p .start) (start .args .p .end - start .args .p .start) (bapAt bap (c .addresses-of .last .0))
       ≡ pointers (start .args .by .fscod) (start .args .by .st) (start .args .exps .now) (start .args .p)

@@ -130,7 +130,7 @@ fn at_most_63(x: u8) -> u8
     if 63 < x { 63 } else { x }
 }
 
-// The address of a bin: its level minus the mask, in steps of 32, and then clamped. What is not below 0 is at most 191, and goes on as a byte,
+// The address of a bin: its level minus the mask, in steps of 32, and then clamped. What is not below 0 is at most 160, and goes on as a byte,
 // so that the processor takes several bins at once.
 fn address(psd: i32, mask: i32) -> u8
     requires { ⌜ (pos 0 ≤ℤ psd) × (psd ≤ℤ pos 3072) × Limit mask ⌝ }

@@ -4,10 +4,10 @@
 #![no_main]
 
 mod input;
-mod mutate;
 #[path = "../../../rust/src/layout.rs"]
 #[allow(dead_code)]
 mod layout;
+mod mutate;
 #[path = "../../../rust/src/raw.rs"]
 #[allow(dead_code)]
 mod raw;

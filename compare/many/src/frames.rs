@@ -11,8 +11,8 @@ use judge::rng::Rng;
 /// The most rows that are lent.
 pub const MOST_ROWS: usize = 4200;
 
-const SMALL: usize = 1500;
-const LARGE: usize = 100;
+const SMALL: usize = 600;
+const LARGE: usize = 60;
 
 /// A field of a frame: its name, where it stands, and its width.
 #[derive(Clone, Copy)]
@@ -74,7 +74,8 @@ pub struct Frames {
     room: Vec<i32>,
     /// Of 100 whole frames so many are drawn anew.
     renewed: usize,
-    style: fn(&mut Rng) -> Style,
+    small_style: Draws,
+    large_style: Draws,
     /// The frame of the store that is drawn anew, and from which bit on.
     at: usize,
     from: usize,
@@ -84,7 +85,10 @@ pub struct Frames {
     pub numbers: usize,
 }
 
-/// A style of any large frame.
+/// How the style of a frame is drawn.
+pub type Draws = fn(&mut Rng) -> Style;
+
+/// Any large frame.
 pub fn any_large(rng: &mut Rng) -> Style {
     match rng.below(8) {
         0 => Style::dense(rng),
@@ -92,18 +96,15 @@ pub fn any_large(rng: &mut Rng) -> Style {
     }
 }
 
-fn small(rng: &mut Rng) -> Style {
-    Style {
+/// Any small frame: one in six of any style, the others of one that most often fits in one run, and most of these with few bins.
+pub fn any_small(rng: &mut Rng) -> Style {
+    let style = Style {
         frmsizecod: rng.below(8),
         ..Style::random(rng)
-    }
-}
-
-/// A style that most often fits a small frame in one run.
-fn thrifty(rng: &mut Rng) -> Style {
-    let style = small(rng);
-    match rng.chance(60) {
-        true => Style {
+    };
+    match rng.below(6) {
+        0 => style,
+        1 => Style {
             snr: style.snr / 3,
             change: style.change / 3,
             delta: style.delta / 3,
@@ -112,18 +113,43 @@ fn thrifty(rng: &mut Rng) -> Style {
             dense: false,
             ..style
         },
+        _ => few_bins(rng, style),
+    }
+}
+
+/// Most often a frame with few bins, which takes little time.
+pub fn tiny(rng: &mut Rng) -> Style {
+    let style = any_small(rng);
+    match rng.chance(85) {
+        true => few_bins(rng, style),
         false => style,
     }
 }
 
+fn few_bins(rng: &mut Rng, style: Style) -> Style {
+    Style {
+        frmsizecod: rng.below(2),
+        acmod: rng.pick(&[1, 1, 1, 0, 2]),
+        extras: style.extras / 3,
+        change: rng.pick(&[0, 0, 20]),
+        delta: style.delta / 5,
+        skip: style.skip / 3,
+        snr: rng.pick(&[0, 5, 10, 20]),
+        narrow: true,
+        dense: false,
+        ..style
+    }
+}
+
 impl Frames {
-    pub fn new(rng: &mut Rng, renewed: usize, large: fn(&mut Rng) -> Style) -> Self {
+    pub fn new(rng: &mut Rng, renewed: usize, small: Draws, large: Draws) -> Self {
         let mut frames = Frames {
             small: Vec::new(),
             large: Vec::new(),
             room: vec![0; MANY_ROWS * ROW],
             renewed,
-            style: large,
+            small_style: small,
+            large_style: large,
             at: 0,
             from: 0,
             capture: Vec::new(),
@@ -151,13 +177,14 @@ impl Frames {
     /// A frame of the store, drawn anew from some field on, or wholly.
     fn renew(&mut self, rng: &mut Rng) -> usize {
         let at = rng.below(SMALL);
+        let style = (self.small_style)(rng);
         let made = match rng.chance(25) {
-            true => accepted(small(rng), rng),
+            true => accepted(style, rng),
             false => {
                 let old = &self.small[at];
                 let field = old.fields[rng.below(old.fields.len())];
                 let from = usize::from(field.at + field.width);
-                drawn(old.bytes.clone(), from, small(rng), rng)
+                drawn(old.bytes.clone(), from, style, rng)
             }
         };
         if let Some(bytes) = made {
@@ -169,7 +196,7 @@ impl Frames {
     fn renew_large(&mut self, rng: &mut Rng) -> usize {
         let at = rng.below(LARGE);
         if rng.chance(10) {
-            let style = (self.style)(rng);
+            let style = (self.large_style)(rng);
             if let Some(bytes) = accepted(style, rng) {
                 self.large[at] = self.known(bytes);
             }
@@ -189,6 +216,10 @@ impl Frames {
             true => 40,
             false => usize::from(field.at + field.width),
         };
+        // Other bits in the spans behind it, too.
+        for bytes in self.capture[self.from / 8 + 1..].chunks_mut(8) {
+            bytes.copy_from_slice(&rng.draw().to_le_bytes()[..bytes.len()]);
+        }
         // Rows for what may come to stand there; most often enough.
         self.numbers = ROW * (old.fields.len() + 150) + rng.below(ROW);
         self.numbers
@@ -196,7 +227,7 @@ impl Frames {
 
     /// Draws that frame, in one run of the judge, which is this input's.
     pub fn tried(&mut self, rng: &mut Rng, room: &mut [i32]) -> Answer {
-        let style = thrifty(rng);
+        let style = (self.small_style)(rng);
         tried(&mut self.capture, self.from, style, rng, room)
     }
 

@@ -79,10 +79,11 @@ fn main() {
     };
     let mut rng = Rng(seed as u64);
     let mut operation = operation(&name, &mut rng).unwrap_or_else(|| usage());
+    let plain = operation.plain();
     let mut steer = Steer::new(operation.ways());
     let (mut calls, mut differences) = (0, 0);
     while calls < least || steer.met[0] < accepted {
-        let way = steer.way(&mut rng);
+        let way = steer.way(&mut rng, plain);
         let held = operation.call(&mut rng, way);
         steer.note(way, held.outcome);
         calls += 1;
@@ -92,15 +93,22 @@ fn main() {
                 println!("{name}, call {calls}: {difference}");
             }
         }
+        if calls % 1_000_000 == 0 {
+            let accepted = steer.met[0];
+            println!(
+                "{name}: {calls} calls, {accepted} of outcome 0, {differences} differences so far"
+            );
+        }
     }
     let met = (0..OUTCOMES).filter(|outcome| steer.met[*outcome] > 0);
     let met: Vec<String> = met
         .map(|outcome| format!("{outcome}: {}", steer.met[outcome]))
         .collect();
     println!(
-        "{name}, seed {seed}: {calls} calls {}: {}",
+        "{name}, seed {seed}: {calls} calls {}: {}{}",
         operation.outcomes(),
-        met.join(", ")
+        met.join(", "),
+        operation.more()
     );
     println!("{name}: {differences} differences");
     std::process::exit(i32::from(differences > 0));

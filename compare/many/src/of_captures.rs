@@ -1,6 +1,6 @@
 //! Operations on whole captures and on bursts: burst_read, salvage and index.
 
-use crate::frames::{any_large, Frames, FRAME_WAYS, MOST_ROWS};
+use crate::frames::{any_large, tiny, Frames, FRAME_WAYS, MOST_ROWS};
 use crate::lent::Lent;
 use crate::of_frames::untouched_byte;
 use crate::operation::{Held, Operation};
@@ -26,7 +26,7 @@ pub struct Read {
 impl Read {
     pub fn new(rng: &mut Rng) -> Self {
         Read {
-            frames: Frames::new(rng, RENEWED, any_large),
+            frames: Frames::new(rng, RENEWED, tiny, any_large),
             burst: vec![0; BURST],
             room: Lent::new(ROW * MOST_ROWS, untouched),
             out: Lent::new(4000, untouched_byte),
@@ -117,7 +117,7 @@ struct Captures {
 impl Captures {
     fn new(rng: &mut Rng) -> Self {
         Captures {
-            frames: Frames::new(rng, RENEWED, any_large),
+            frames: Frames::new(rng, RENEWED, tiny, any_large),
             capture: Vec::new(),
             count: 0,
             bytes: 0,
@@ -126,7 +126,7 @@ impl Captures {
 
     fn make(&mut self, rng: &mut Rng, damaged: bool) {
         self.capture.clear();
-        (self.count, self.bytes) = (rng.pick(&[0, 1, 1, 2, 2, 3]), 0);
+        (self.count, self.bytes) = (rng.pick(&[0, 0, 0, 0, 0, 1, 1, 1, 2, 3]), 0);
         for _ in 0..self.count {
             between(rng, &mut self.capture);
             let frame = self.frames.any(rng);
@@ -247,8 +247,12 @@ impl Operation for Index {
         captures.make(rng, way == 1);
         let capture = &captures.capture;
         let mut these = [0; 7 * INDEXED];
-        these.iter_mut().enumerate().for_each(|(i, n)| *n = 1_000_000 + i);
-        let (mut numbers, mut length, mut entries) = (ROW * ROWS, 6 * INDEXED + rng.below(INDEXED), 0);
+        these
+            .iter_mut()
+            .enumerate()
+            .for_each(|(i, n)| *n = 1_000_000 + i);
+        let (mut numbers, mut length, mut entries) =
+            (ROW * ROWS, 6 * INDEXED + rng.below(INDEXED), 0);
         if way >= 4 || rng.chance(40) {
             // An index of a beginning of the capture, which is then extended.
             let begun = rng.below(capture.len() + 1);
@@ -260,7 +264,13 @@ impl Operation for Index {
             3 => length = rng.below(INDEXED * (captures.count + 1)),
             4 if entries > 0 => {
                 let number = &mut these[INDEXED * (entries - 1) + rng.below(INDEXED)];
-                *number = rng.pick(&[*number ^ 1, *number + 1, usize::MAX, 0, rng.clone().below(1000)]);
+                *number = rng.pick(&[
+                    *number ^ 1,
+                    *number + 1,
+                    usize::MAX,
+                    0,
+                    rng.clone().below(1000),
+                ]);
             }
             5 => entries = rng.pick(&[entries + 1, entries + 7, usize::MAX, usize::MAX / 5]),
             6 => {

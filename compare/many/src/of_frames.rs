@@ -1,6 +1,7 @@
 //! Operations on the frame at a place of a capture: parse, header, blocks, profile, burst_write and correct.
 
-use crate::frames::{any_large, Frames, FRAME_WAYS, MOST_ROWS};
+use crate::frames::{any_large, any_small, tiny, Draws, Frames, FRAME_WAYS, MOST_ROWS};
+use crate::layout;
 use crate::lent::Lent;
 use crate::operation::{Held, Operation};
 use crate::raw;
@@ -22,9 +23,9 @@ struct Framed {
 }
 
 impl Framed {
-    fn new(rng: &mut Rng, renewed: usize, large: fn(&mut Rng) -> Style) -> Self {
+    fn new(rng: &mut Rng, renewed: usize, small: Draws, large: Draws) -> Self {
         Framed {
-            frames: Frames::new(rng, renewed, large),
+            frames: Frames::new(rng, renewed, small, large),
             room: Lent::new(ROW * MOST_ROWS, untouched),
         }
     }
@@ -47,28 +48,71 @@ impl Framed {
 /// Of 100 whole frames of the operations but `parse` so many are drawn anew.
 const RENEWED: usize = 10;
 
-pub struct Parse(Framed);
+/// A set of numbers of 64 bits, of which it holds 28: what it counts is at most too few.
+struct Different {
+    met: Vec<u64>,
+    count: usize,
+}
+
+impl Different {
+    fn new() -> Self {
+        Different {
+            met: vec![0; 1 << 22],
+            count: 0,
+        }
+    }
+
+    fn meet(&mut self, bytes: &[u8]) {
+        let mix = |number: u64, chunk: &[u8]| {
+            let mut eight = [0; 8];
+            eight[..chunk.len()].copy_from_slice(chunk);
+            Rng(number ^ u64::from_le_bytes(eight)).draw()
+        };
+        let number = bytes.chunks(8).fold(bytes.len() as u64, mix) >> 36;
+        let (word, bit) = ((number / 64) as usize, 1 << (number % 64));
+        self.count += usize::from(self.met[word] & bit == 0);
+        self.met[word] |= bit;
+    }
+}
+
+pub struct Parse {
+    framed: Framed,
+    /// Accepted frames, by their bytes up to the end of the audio.
+    different: Different,
+}
 
 impl Parse {
     pub fn new(rng: &mut Rng) -> Self {
-        Parse(Framed::new(rng, 0, any_large))
+        Parse {
+            framed: Framed::new(rng, 0, any_small, any_large),
+            different: Different::new(),
+        }
+    }
+
+    fn held(&mut self, told: &layout::Answer, answer: &cut::Answer) -> Held {
+        let Framed { frames, room } = &self.framed;
+        let judge = answer.numbers();
+        if answer.verdict.is_ok() {
+            let frame = &frames.capture[frames.place..];
+            self.different.meet(&frame[..answer.bit.div_ceil(8)]);
+        }
+        let same = *told == judge && room.same();
+        Held::new(answer.number() as usize, same, || {
+            self.framed
+                .show(format!("judge {judge:?}\n  port {told:?}"))
+        })
     }
 
     /// The judge's own run draws the frame: see `tried`.
     fn drawn(&mut self, rng: &mut Rng) -> Held {
-        let Framed { frames, room } = &mut self.0;
+        let Framed { frames, room } = &mut self.framed;
         let (judged, lent) = room.lend(frames.begin(rng));
         let answer = frames.tried(rng, judged);
         let (told, _) = raw::parse(&frames.capture, 0, lent);
-        let judge = answer.numbers();
-        let same = told == judge && room.same();
         if answer.verdict.is_ok() {
             frames.keep(&room.judge()[..ROW * answer.rows]);
         }
-        Held::new(answer.number() as usize, same, || {
-            self.0
-                .show(format!("drawn: judge {judge:?}\n  port {told:?}"))
-        })
+        self.held(&told, &answer)
     }
 }
 
@@ -77,20 +121,27 @@ impl Operation for Parse {
         FRAME_WAYS
     }
 
+    /// Many frames are to be accepted.
+    fn plain(&self) -> usize {
+        70
+    }
+
     fn call(&mut self, rng: &mut Rng, way: usize) -> Held {
+        // Every twentieth of them is parsed from its bytes all the same.
         if way == 0 && !rng.chance(5) {
             return self.drawn(rng);
         }
-        let Framed { frames, room } = &mut self.0;
+        let Framed { frames, room } = &mut self.framed;
         frames.make(rng, way);
         let (judged, lent) = room.lend(frames.numbers);
         let answer = cut::answer(&frames.capture, frames.place, judged);
         let (told, _) = raw::parse(&frames.capture, frames.place, lent);
-        let judge = answer.numbers();
-        let same = told == judge && room.same();
-        Held::new(answer.number() as usize, same, || {
-            self.0.show(format!("judge {judge:?}\n  port {told:?}"))
-        })
+        self.held(&told, &answer)
+    }
+
+    fn more(&self) -> String {
+        let count = self.different.count;
+        format!("; at least {count} of the accepted frames differ before the end of their audio")
     }
 }
 
@@ -98,7 +149,7 @@ pub struct Header(Framed);
 
 impl Header {
     pub fn new(rng: &mut Rng) -> Self {
-        Header(Framed::new(rng, 2, any_large))
+        Header(Framed::new(rng, 2, tiny, any_large))
     }
 }
 
@@ -132,7 +183,7 @@ pub struct Blocks {
 impl Blocks {
     pub fn new(rng: &mut Rng) -> Self {
         Blocks {
-            framed: Framed::new(rng, RENEWED, any_large),
+            framed: Framed::new(rng, RENEWED, tiny, any_large),
             before: [0; HEADER_ANSWER],
             header_room: vec![0; ROW * MOST_ROWS],
         }
@@ -172,8 +223,9 @@ impl Operation for Blocks {
         let (told, _) = raw::blocks(&frames.capture, frames.place, lent, &given);
         let same = told == judge && room.same();
         Held::new(judge[0] as usize, same, || {
-            self.framed
-                .show(format!("given {given:?}\n  judge {judge:?}\n  port {told:?}"))
+            self.framed.show(format!(
+                "given {given:?}\n  judge {judge:?}\n  port {told:?}"
+            ))
         })
     }
 }
@@ -202,7 +254,7 @@ pub struct Profile(Framed);
 
 impl Profile {
     pub fn new(rng: &mut Rng) -> Self {
-        Profile(Framed::new(rng, RENEWED, near_the_profile))
+        Profile(Framed::new(rng, RENEWED, tiny, near_the_profile))
     }
 }
 
@@ -246,7 +298,7 @@ pub struct Write {
 impl Write {
     pub fn new(rng: &mut Rng) -> Self {
         Write {
-            framed: Framed::new(rng, RENEWED, any_large),
+            framed: Framed::new(rng, RENEWED, tiny, any_large),
             out: Lent::new(BURST + 16, untouched_byte),
         }
     }
@@ -287,7 +339,7 @@ pub struct Correct {
 impl Correct {
     pub fn new(rng: &mut Rng) -> Self {
         Correct {
-            framed: Framed::new(rng, RENEWED, any_large),
+            framed: Framed::new(rng, RENEWED, tiny, any_large),
             capture: Lent::new(8192, untouched_byte),
             changes: Lent::new(12, untouched),
         }
@@ -315,7 +367,14 @@ impl Operation for Correct {
         let (judged_changes, changes) = self.changes.lend(12);
         let judged_changes = judged_changes.try_into().expect("twelve");
         let changes = changes.try_into().expect("twelve");
-        let judge = level::correct(judged_bytes, place, programme, level, judged, judged_changes);
+        let judge = level::correct(
+            judged_bytes,
+            place,
+            programme,
+            level,
+            judged,
+            judged_changes,
+        );
         let (told, _) = raw::correct(bytes, place, programme, level, lent, changes);
         let same = told == judge && room.same() && self.capture.same() && self.changes.same();
         Held::new(judge[0] as usize, same, || {

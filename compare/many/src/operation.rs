@@ -25,8 +25,18 @@ pub trait Operation {
     /// Draws a call in that way, and makes it on both sides.
     fn call(&mut self, rng: &mut Rng, way: usize) -> Held;
 
+    /// Of 100 calls so many are drawn in the plain way, whatever came out before.
+    fn plain(&self) -> usize {
+        10
+    }
+
     /// What the outcomes are.
     fn outcomes(&self) -> &'static str {
         "by refusal (0: none)"
+    }
+
+    /// What else is to be told of the calls.
+    fn more(&self) -> String {
+        String::new()
     }
 }

@@ -321,7 +321,12 @@ impl Operation for Listings {
             }
             // A number that is longer than it may be.
             7 if self.packs => {
-                input.splice(at..at, rng.pick(&[&b"0"[..], b"99999999999", b"2147483648 "]).iter().copied());
+                input.splice(
+                    at..at,
+                    rng.pick(&[&b"0"[..], b"99999999999", b"2147483648 "])
+                        .iter()
+                        .copied(),
+                );
             }
             7 => {
                 let chain = rng.below(7);

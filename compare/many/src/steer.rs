@@ -1,5 +1,5 @@
-//! Which way the next call is drawn: every third time the plain one, every third time any, and every third time the one that most often
-//! led to the outcome that is the rarest so far.
+//! Which way the next call is drawn: so many times in 100 the plain one, else every other time any, and every other time the one that most
+//! often led to the outcome that is the rarest so far.
 
 use judge::rng::Rng;
 
@@ -32,11 +32,13 @@ impl Steer {
         (0..self.by_way.len()).max_by_key(share)
     }
 
-    pub fn way(&self, rng: &mut Rng) -> usize {
-        match rng.below(3) {
-            0 => 0,
-            1 => rng.below(self.by_way.len()),
-            _ => self.to_the_rarest().unwrap_or(0),
+    pub fn way(&self, rng: &mut Rng, plain: usize) -> usize {
+        if rng.chance(plain) {
+            0
+        } else if rng.chance(50) {
+            rng.below(self.by_way.len())
+        } else {
+            self.to_the_rarest().unwrap_or(0)
         }
     }
 

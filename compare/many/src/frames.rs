@@ -128,7 +128,6 @@ pub fn tiny(rng: &mut Rng) -> Style {
 
 fn few_bins(rng: &mut Rng, style: Style) -> Style {
     Style {
-        frmsizecod: rng.below(2),
         acmod: rng.pick(&[1, 1, 1, 0, 2]),
         extras: style.extras / 3,
         change: rng.pick(&[0, 0, 20]),
@@ -211,7 +210,8 @@ impl Frames {
         self.place = 0;
         self.capture.clear();
         self.capture.extend(&old.bytes);
-        let field = old.fields[rng.below(old.fields.len())];
+        // (Not at the very end, where little is left to be drawn.)
+        let field = old.fields[rng.below(old.fields.len() * 7 / 8)];
         self.from = match rng.chance(4) {
             true => 40,
             false => usize::from(field.at + field.width),
@@ -231,8 +231,12 @@ impl Frames {
         tried(&mut self.capture, self.from, style, rng, room)
     }
 
-    /// Keeps that frame, which was accepted with these rows.
+    /// Keeps that frame, which was accepted with these rows, if it has room for others to be drawn instead.
     pub fn keep(&mut self, rows: &[i32]) {
+        let last = field(&rows[rows.len() - ROW..]);
+        if usize::from(last.at + last.width) > 5 * self.capture.len() {
+            return;
+        }
         let kept = &mut self.small[self.at];
         kept.bytes.clear();
         kept.bytes.extend(&self.capture);

@@ -1,8 +1,10 @@
 //! fuzz [OPTION..] [FOLDER..]: libFuzzer's own program, which calls the functions below. Each input is given to the original, which alone
 //! counts its branches, to the judge, which is held against the original in every way that judge/src/agree.rs knows, and to the port. A
-//! difference stops the program, and libFuzzer keeps the input. At its end it prints how many inputs there were by refusal.
+//! difference stops the program, and libFuzzer keeps the input. At its end it prints how many inputs there were by refusal. Where the
+//! environment variables COVERED and LISTED name a folder of inputs and a list of cases, it only tells what these cover.
 #![no_main]
 
+mod covered;
 mod input;
 #[path = "../../../rust/src/layout.rs"]
 #[allow(dead_code)]
@@ -133,6 +135,10 @@ extern "C" {
 /// Called by libFuzzer once, first.
 #[no_mangle]
 pub extern "C" fn LLVMFuzzerInitialize(_: *mut i32, _: *mut *mut *mut i8) -> i32 {
+    if let (Ok(folder), Ok(list)) = (std::env::var("COVERED"), std::env::var("LISTED")) {
+        covered::tell(&folder, &list);
+        std::process::exit(0);
+    }
     // SAFETY: `tell` takes nothing, and is there until the program ends.
     unsafe { atexit(tell) }
 }

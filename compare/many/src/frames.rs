@@ -68,6 +68,14 @@ const WAYS: [Way; 11] = [
 /// How many ways there are.
 pub const FRAME_WAYS: usize = WAYS.len() + names::COUNT;
 
+/// The ways that lead to a refusal at or near the beginning: truncated, at another place, at a far place, no frame.
+pub const LIGHT: [usize; 4] = [
+    Way::Truncated as usize,
+    Way::OtherPlace as usize,
+    Way::FarPlace as usize,
+    Way::NoFrame as usize,
+];
+
 pub struct Frames {
     small: Vec<Frame>,
     large: Vec<Frame>,
@@ -120,7 +128,7 @@ pub fn any_small(rng: &mut Rng) -> Style {
 /// Most often a frame with few bins, which takes little time.
 pub fn tiny(rng: &mut Rng) -> Style {
     let style = any_small(rng);
-    match rng.chance(85) {
+    match rng.chance(96) {
         true => few_bins(rng, style),
         false => style,
     }
@@ -264,6 +272,16 @@ impl Frames {
         self.numbers = ROW * frame.fields.len();
     }
 
+    /// A large frame with a value in its field of that name.
+    pub fn make_large(&mut self, rng: &mut Rng, name: i32, value: u32) {
+        self.make(rng, Way::Large as usize);
+        let start = |field: &&Field| i32::from(field.name) == name;
+        if let Some(field) = self.large[self.at].fields.iter().find(start) {
+            let (at, width) = (usize::from(field.at), usize::from(field.width));
+            bits::set(&mut self.capture, at, width, value);
+        }
+    }
+
     /// Another value in a field of a name, if a frame that has one is soon found.
     fn rewrite(&mut self, rng: &mut Rng, name: usize) {
         for _ in 0..12 {
@@ -318,8 +336,8 @@ impl Frames {
         };
         match way {
             Way::Large => {
-                let at = self.renew_large(rng);
-                self.take(at, true);
+                self.at = self.renew_large(rng);
+                self.take(self.at, true);
             }
             _ => {
                 let renewed = way == Way::Whole && rng.below(100) < self.renewed;

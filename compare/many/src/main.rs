@@ -83,7 +83,7 @@ fn main() {
     let mut steer = Steer::new(operation.ways());
     let (mut calls, mut differences) = (0, 0);
     while calls < least || steer.met[0] < accepted {
-        let way = steer.way(&mut rng, plain);
+        let way = steer.way(&mut rng, plain, operation.light());
         let held = operation.call(&mut rng, way);
         steer.note(way, held.outcome);
         calls += 1;

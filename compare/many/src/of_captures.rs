@@ -1,6 +1,6 @@
 //! Operations on whole captures and on bursts: burst_read, salvage and index.
 
-use crate::frames::{any_large, tiny, Frames, FRAME_WAYS, MOST_ROWS};
+use crate::frames::{any_large, tiny, Frames, FRAME_WAYS, LIGHT, MOST_ROWS};
 use crate::lent::Lent;
 use crate::of_frames::untouched_byte;
 use crate::operation::{Held, Operation};
@@ -37,9 +37,23 @@ impl Read {
 /// Faults of a burst, after the ways of its frame.
 const FAULTS: usize = 6;
 
+/// Bursts of another length, with other words, and with frames that are refused early.
+const READ_LIGHT: [usize; 6] = [
+    FRAME_WAYS,
+    FRAME_WAYS + 1,
+    LIGHT[0],
+    LIGHT[1],
+    LIGHT[2],
+    LIGHT[3],
+];
+
 impl Operation for Read {
     fn ways(&self) -> usize {
         FRAME_WAYS + FAULTS
+    }
+
+    fn light(&self) -> &[usize] {
+        &READ_LIGHT
     }
 
     fn call(&mut self, rng: &mut Rng, way: usize) -> Held {
@@ -126,7 +140,7 @@ impl Captures {
 
     fn make(&mut self, rng: &mut Rng, damaged: bool) {
         self.capture.clear();
-        (self.count, self.bytes) = (rng.pick(&[0, 0, 0, 0, 0, 1, 1, 1, 2, 3]), 0);
+        (self.count, self.bytes) = (rng.pick(&[0, 0, 0, 0, 0, 0, 0, 1, 1, 1, 1, 2, 3]), 0);
         for _ in 0..self.count {
             between(rng, &mut self.capture);
             let frame = self.frames.any(rng);

@@ -1,6 +1,6 @@
 //! Operations on the frame at a place of a capture: parse, header, blocks, profile, burst_write and correct.
 
-use crate::frames::{any_large, any_small, tiny, Draws, Frames, FRAME_WAYS, MOST_ROWS};
+use crate::frames::{any_large, any_small, tiny, Draws, Frames, FRAME_WAYS, LIGHT, MOST_ROWS};
 use crate::layout;
 use crate::lent::Lent;
 use crate::operation::{Held, Operation};
@@ -13,6 +13,7 @@ use judge::draw::Style;
 use judge::hex;
 use judge::layout::{header_at, HeaderAnswer, HEADER_ANSWER, ROW};
 use judge::level;
+use judge::names::number;
 use judge::profile;
 use judge::rng::Rng;
 
@@ -46,7 +47,7 @@ impl Framed {
 }
 
 /// Of 100 whole frames of the operations but `parse` so many are drawn anew.
-const RENEWED: usize = 10;
+const RENEWED: usize = 5;
 
 /// A set of numbers of 64 bits, of which it holds 28: what it counts is at most too few.
 struct Different {
@@ -193,9 +194,24 @@ impl Blocks {
 /// What is given to `blocks` as the header's answer: the right one, one number of it changed, another call's, or any numbers.
 const GIVEN: usize = 4;
 
+/// Frames that are refused early, and whole ones with another header answer.
+const BLOCKS_LIGHT: [usize; 7] = [
+    1,
+    2,
+    3,
+    GIVEN * LIGHT[0],
+    GIVEN * LIGHT[1],
+    GIVEN * LIGHT[2],
+    GIVEN * LIGHT[3],
+];
+
 impl Operation for Blocks {
     fn ways(&self) -> usize {
         GIVEN * FRAME_WAYS
+    }
+
+    fn light(&self) -> &[usize] {
+        &BLOCKS_LIGHT
     }
 
     fn call(&mut self, rng: &mut Rng, way: usize) -> Held {
@@ -230,9 +246,13 @@ impl Operation for Blocks {
     }
 }
 
-/// A frame that is within the profile, but for one thing now and then.
+/// A frame with few bins that is within the profile, but for one thing now and then.
 fn near_the_profile(rng: &mut Rng) -> Style {
     let mut style = Style {
+        snr: rng.pick(&[0, 5, 10, 20]),
+        change: rng.pick(&[0, 0, 20]),
+        narrow: true,
+        dense: false,
         fscod: 0,
         frmsizecod: 20 + rng.below(4),
         acmod: rng.pick(&[2, 2, 7]),
@@ -260,12 +280,19 @@ impl Profile {
 
 impl Operation for Profile {
     fn ways(&self) -> usize {
-        FRAME_WAYS
+        FRAME_WAYS + 1
+    }
+
+    fn light(&self) -> &[usize] {
+        &LIGHT
     }
 
     fn call(&mut self, rng: &mut Rng, way: usize) -> Held {
         let Framed { frames, room } = &mut self.0;
-        frames.make(rng, way);
+        match way == FRAME_WAYS {
+            true => frames.make_large(rng, number("dialnorm"), 0),
+            false => frames.make(rng, way),
+        }
         let (judged, lent) = room.lend(frames.numbers);
         let judge = profile::profile(&frames.capture, frames.place, judged);
         let (told, _) = raw::profile(&frames.capture, frames.place, lent);
@@ -309,6 +336,10 @@ impl Operation for Write {
         FRAME_WAYS + 1
     }
 
+    fn light(&self) -> &[usize] {
+        &LIGHT
+    }
+
     fn call(&mut self, rng: &mut Rng, way: usize) -> Held {
         let Framed { frames, room } = &mut self.framed;
         frames.make(rng, if way == FRAME_WAYS { 2 } else { way });
@@ -349,6 +380,10 @@ impl Correct {
 impl Operation for Correct {
     fn ways(&self) -> usize {
         FRAME_WAYS + 2
+    }
+
+    fn light(&self) -> &[usize] {
+        &LIGHT
     }
 
     fn call(&mut self, rng: &mut Rng, way: usize) -> Held {

@@ -30,6 +30,11 @@ pub trait Operation {
         10
     }
 
+    /// The ways whose calls take little time, if others take much.
+    fn light(&self) -> &[usize] {
+        &[]
+    }
+
     /// What the outcomes are.
     fn outcomes(&self) -> &'static str {
         "by refusal (0: none)"

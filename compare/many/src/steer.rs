@@ -1,5 +1,5 @@
-//! Which way the next call is drawn: so many times in 100 the plain one, else every other time any, and every other time the one that most
-//! often led to the outcome that is the rarest so far.
+//! Which way the next call is drawn: so many times in 100 the plain one; of the rest, where there are light ones, half of them; else every
+//! other time any, and every other time the one that most often led to the outcome that is the rarest so far.
 
 use judge::rng::Rng;
 
@@ -32,9 +32,11 @@ impl Steer {
         (0..self.by_way.len()).max_by_key(share)
     }
 
-    pub fn way(&self, rng: &mut Rng, plain: usize) -> usize {
+    pub fn way(&self, rng: &mut Rng, plain: usize, light: &[usize]) -> usize {
         if rng.chance(plain) {
             0
+        } else if !light.is_empty() && rng.chance(50) {
+            rng.pick(light)
         } else if rng.chance(50) {
             rng.below(self.by_way.len())
         } else {

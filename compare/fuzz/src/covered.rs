@@ -41,17 +41,17 @@ impl Covered {
         self.0.iter().filter(|covered| **covered).count()
     }
 
-    /// The places of the counters that moved in neither, as the program's file has them.
-    fn in_neither(&self, other: &Covered) -> Vec<usize> {
-        let missed = (0..self.0.len()).filter(|i| !self.0[*i] && !other.0[*i]);
-        let base = &raw const __executable_start as usize;
+    /// The place of a counter, as the program's file has it.
+    fn place(&self, i: usize) -> usize {
+        assert!(i < self.0.len());
         // SAFETY: there are as many places as counters.
-        let place = |i| unsafe { (&raw const __start___sancov_pcs).add(i).read()[0] };
-        missed.map(|i| place(i) - base).collect()
+        let place = unsafe { (&raw const __start___sancov_pcs).add(i).read()[0] };
+        place - &raw const __executable_start as usize
     }
 }
 
-/// Prints how many counters the inputs of a folder move, how many those of the list, and the places of those that neither does.
+/// Prints how many counters the inputs of a folder move, how many those of the list, and the places of those that one of them or neither
+/// does.
 pub fn tell(folder: &str, list: &str) {
     let mut kept = Covered::new();
     for file in fs::read_dir(folder).expect("a folder") {
@@ -70,25 +70,17 @@ pub fn tell(folder: &str, list: &str) {
             listed.run(data.get(case.place..).unwrap_or(&[]));
         }
     }
-    let neither = kept.in_neither(&listed);
-    let only = |one: &Covered, other: &Covered| {
-        one.0
-            .iter()
-            .zip(&other.0)
-            .filter(|(one, other)| **one && !**other)
-            .count()
-    };
     println!("{} counters in the original", kept.0.len());
-    println!(
-        "moved by the inputs of the folder: {}, by them alone: {}",
-        kept.count(),
-        only(&kept, &listed)
-    );
-    println!(
-        "moved by the stored list: {}, by it alone: {}",
-        listed.count(),
-        only(&listed, &kept)
-    );
-    println!("moved by neither: {}", neither.len());
-    neither.iter().for_each(|place| println!("{place:#x}"));
+    println!("moved by the inputs of the folder: {}", kept.count());
+    println!("moved by the stored list: {}", listed.count());
+    let (kept, listed) = (&kept, &listed);
+    let of = |by| (0..kept.0.len()).filter(move |i| (kept.0[*i], listed.0[*i]) == by);
+    for (by, what) in [
+        ((true, false), "the folder"),
+        ((false, true), "the list"),
+        ((false, false), "neither"),
+    ] {
+        println!("moved by {what} alone: {}", of(by).count());
+        of(by).for_each(|i| println!("{:#x} {what}", kept.place(i)));
+    }
 }

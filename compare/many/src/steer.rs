@@ -1,4 +1,4 @@
-//! Which way the next call is drawn: so many times in 100 the plain one; of the rest, where there are light ones, half of them; else every
+//! Which way the next call is drawn: so many times in 100 the plain one; of the rest, where there are light ones, three in four; else every
 //! other time any, and every other time the one that most often led to the outcome that is the rarest so far.
 
 use judge::rng::Rng;
@@ -35,7 +35,7 @@ impl Steer {
     pub fn way(&self, rng: &mut Rng, plain: usize, light: &[usize]) -> usize {
         if rng.chance(plain) {
             0
-        } else if !light.is_empty() && rng.chance(50) {
+        } else if !light.is_empty() && rng.chance(75) {
             rng.pick(light)
         } else if rng.chance(50) {
             rng.below(self.by_way.len())

@@ -140,7 +140,10 @@ impl Captures {
 
     fn make(&mut self, rng: &mut Rng, damaged: bool) {
         self.capture.clear();
-        (self.count, self.bytes) = (rng.pick(&[0, 0, 0, 0, 0, 0, 0, 0, 0, 0, 1, 1, 1, 1, 2, 3]), 0);
+        (self.count, self.bytes) = (
+            rng.pick(&[0, 0, 0, 0, 0, 0, 0, 0, 0, 0, 1, 1, 1, 1, 2, 3]),
+            0,
+        );
         for _ in 0..self.count {
             between(rng, &mut self.capture);
             let frame = self.frames.any(rng);

@@ -223,7 +223,12 @@ impl Operation for Aht {
                     *hebap = 20 + rng.below(236) as u8;
                 }
             }
-            6 => bits::set(&mut self.data, at, 7, 0b1100000 | 27 + rng.below(5) as u32),
+            6 => bits::set(
+                &mut self.data,
+                at,
+                7,
+                0b1100000 | (27 + rng.below(5) as u32),
+            ),
             7 => match rng.below(4) {
                 0 => at = usize::MAX - rng.below(9),
                 1 => end = usize::MAX - rng.below(9),

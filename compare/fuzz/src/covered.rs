@@ -76,11 +76,11 @@ pub fn tell(folder: &str, list: &str) {
     let (kept, listed) = (&kept, &listed);
     let of = |by| (0..kept.0.len()).filter(move |i| (kept.0[*i], listed.0[*i]) == by);
     for (by, what) in [
-        ((true, false), "the folder"),
-        ((false, true), "the list"),
+        ((true, false), "the folder alone"),
+        ((false, true), "the list alone"),
         ((false, false), "neither"),
     ] {
-        println!("moved by {what} alone: {}", of(by).count());
+        println!("moved by {what}: {}", of(by).count());
         of(by).for_each(|i| println!("{:#x} {what}", kept.place(i)));
     }
 }

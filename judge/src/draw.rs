@@ -5,7 +5,8 @@
 //! two programmes, odd reuse patterns, skip fields, long addbsi, zero-width mantissas.
 
 use crate::bits;
-use crate::cut::{ac3, Cursor, No, Source, MANY_ROWS};
+use crate::craft::LEVEL;
+use crate::cut::{ac3, Answer, Cursor, No, Source, MANY_ROWS};
 use crate::frame::{fix_crcs, Codec};
 use crate::layout::{row_at, ROW};
 use crate::rng::Rng;
@@ -148,14 +149,16 @@ impl Draw {
         }
     }
 
-    /// A group of three steps that stay within 0 to 24.
+    /// A group of three steps that stay within 0 to 24; from a kept exponent that is outside of it, any.
     fn group(&mut self) -> usize {
         let mut exponent = self.exponent;
         let mut group = 0;
         for _ in 0..3 {
             let fits = |m: &i32| (0..=24).contains(&(exponent + m - 2));
             let steps: Vec<i32> = (0..5).filter(fits).collect();
-            let step = steps[self.rng.below(steps.len())];
+            let Some(&step) = steps.get(self.rng.below(steps.len())) else {
+                return LEVEL as usize;
+            };
             exponent += step - 2;
             group = 5 * group + step as usize;
         }
@@ -240,23 +243,58 @@ impl Draw {
 pub fn accepted(style: Style, rng: &mut Rng) -> Option<Vec<u8>> {
     let bytes = 2 * ac3_frame_words(style.fscod, style.frmsizecod)?;
     let frame = rng.bytes(bytes);
-    let mut draw = Draw {
-        frame,
-        style,
-        rng: Rng(rng.draw()),
-        kept: 0,
-        block_at: [0; 6],
-        send_all: [false; 6],
-        nfchans: 0,
-        coupled: 0,
-        cplbegf: 0,
-        exponent: 0,
-        leak_sent: false,
-        silent: false,
+    drawn(frame, 0, style, rng)
+}
+
+impl Draw {
+    /// The fields that end at or before bit `from` are those of `frame`, and only the rest will be drawn.
+    fn after(frame: Vec<u8>, from: usize, style: Style, rng: &mut Rng) -> Self {
+        Draw {
+            frame,
+            style,
+            rng: Rng(rng.draw()),
+            kept: from,
+            block_at: [0; 6],
+            send_all: [false; 6],
+            nfchans: 0,
+            coupled: 0,
+            cplbegf: 0,
+            exponent: 0,
+            leak_sent: false,
+            silent: false,
+        }
+    }
+}
+
+/// One run of the parser over the fields of `frame` that end at or before bit `from`, and over drawn ones, which are written into it, with
+/// what it answers. Accepted or refused, the frame then holds what was asked for, so this is the answer to it.
+pub fn tried(
+    frame: &mut Vec<u8>,
+    from: usize,
+    style: Style,
+    rng: &mut Rng,
+    room: &mut [i32],
+) -> Answer {
+    let mut draw = Draw::after(std::mem::take(frame), from, style, rng);
+    let mut cur = Cursor::new(&mut draw, room);
+    let verdict = ac3::parse(&mut cur);
+    let answer = Answer {
+        rows: cur.count,
+        bit: cur.pos,
+        verdict,
     };
+    *frame = draw.frame;
+    answer
+}
+
+/// A frame that the parser accepts, with the fields of `frame` that end at or before bit `from`; none after many tries, or where one of
+/// them is refused.
+pub fn drawn(frame: Vec<u8>, from: usize, style: Style, rng: &mut Rng) -> Option<Vec<u8>> {
+    let bytes = frame.len();
+    let mut draw = Draw::after(frame, from, style, rng);
     let mut room = vec![0; MANY_ROWS * ROW];
     for attempt in 0..120 {
-        let (verdict, rows, _) = draw.run(&mut room);
+        let (verdict, rows, end) = draw.run(&mut room);
         match verdict {
             Ok(audio_end) => {
                 if audio_end + 18 <= 8 * bytes && draw.rng.chance(50) {
@@ -264,15 +302,16 @@ pub fn accepted(style: Style, rng: &mut Rng) -> Option<Vec<u8>> {
                 }
                 return Some(draw.frame);
             }
+            Err(_) if from > 0 && end <= from => return None,
             Err(No { number: 6, .. }) => {
                 draw.style.thriftier();
-                draw.kept = 0;
+                draw.kept = from;
                 draw.send_all = [false; 6];
             }
             Err(_) => {
                 // A reuse without cover: draw this block again, in the end with everything sent.
                 let block = room[ROW * (rows - 1) + row_at::BLOCK].max(0) as usize;
-                draw.kept = draw.block_at[block];
+                draw.kept = draw.block_at[block].max(from);
                 draw.send_all[block] = attempt % 4 == 3;
             }
         }

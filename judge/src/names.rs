@@ -5,6 +5,7 @@
 use crate::layout::{row_at, NO_PART};
 use crate::syntax::Role;
 use std::collections::HashMap;
+use std::hash::{BuildHasherDefault, Hasher};
 use std::sync::OnceLock;
 
 /// How many names there are; a name's number is its place in `NAMES`, from 1.
@@ -237,9 +238,30 @@ pub const NAMES: [Name; COUNT] = [
     span("mantissas", Role::Mantissas, "as walked", Section::Audblk),
 ];
 
+/// FNV-1a: names are short and few, and every row asks for one.
+struct Fnv(u64);
+
+impl Default for Fnv {
+    fn default() -> Self {
+        Fnv(0xCBF2_9CE4_8422_2325)
+    }
+}
+
+impl Hasher for Fnv {
+    fn write(&mut self, bytes: &[u8]) {
+        for byte in bytes {
+            self.0 = (self.0 ^ u64::from(*byte)).wrapping_mul(0x100_0000_01B3);
+        }
+    }
+
+    fn finish(&self) -> u64 {
+        self.0
+    }
+}
+
 /// A name's number, 1 to 111.
 pub fn number(text: &str) -> i32 {
-    static NUMBERS: OnceLock<HashMap<&'static str, i32>> = OnceLock::new();
+    static NUMBERS: OnceLock<HashMap<&'static str, i32, BuildHasherDefault<Fnv>>> = OnceLock::new();
     let numbers =
         NUMBERS.get_or_init(|| (1..).zip(&NAMES).map(|(n, name)| (name.text, n)).collect());
     numbers[text]

@@ -1,4 +1,6 @@
 // The AC-3 syncframe as far as the end of its audio: syncinfo, bsi and six audio blocks.
+#![tactic(auto)]
+
 pub mod apart;
 mod audio;
 mod block;

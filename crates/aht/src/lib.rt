@@ -1,4 +1,6 @@
 // The adaptive hybrid transform's part of a channel (E.2.4): where it ends, and its tags. A walk over bits, by the values that it reads.
+#![tactic(auto)]
+
 mod gains;
 mod mantissas;
 

@@ -1,5 +1,7 @@
 // The bit allocation for callers in Rust and C. It exists to hold the allocation against the original's (compare/alloc), call by call; the
 // parser does without it. What `alloc::allocate` requires is tested here, so that any call has an answer.
+#![tactic(auto)]
+
 ghost use Rattle.std.specs.Prelude.{cond, ◌&&◌, ◌≡◌};
 ghost use Rattle.alloc_probe.specs.Accepted.{start_fits, range_fits, codes_fit, is_exponent, exponents_fit, accepted, parameters_of, table_of, answer};
 

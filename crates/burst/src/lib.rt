@@ -1,4 +1,6 @@
 // IEC 61937 data bursts: a frame as a burst of 6,144 bytes, and the frame of a burst.
+#![tactic(auto)]
+
 ghost use Rattle.std.specs.Prelude.{◌++◌, ◌≡◌, ◌+◌, ◌<◌, ◌≤◌, length, drop};
 ghost use Rattle.signed.specs.Level.{clamp_z};
 ghost use Rattle.syntax.specs.Names as Name;

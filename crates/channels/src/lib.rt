@@ -1,5 +1,7 @@
 // How the channels of a block are coupled, and where each of them ends: the sections of an audio block before its exponents. What is public here is so
 // because the audio block stands in a crate above.
+#![tactic(auto)]
+
 pub mod coordinates;
 pub mod coupling;
 pub mod ends;

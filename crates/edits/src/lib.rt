@@ -1,4 +1,6 @@
 // Editing a frame where it stands: the names whose values may be changed freely, and a value written into a field.
+#![tactic(auto)]
+
 ghost use Rattle.std.specs.Prelude.{◌≡◌, ◌+◌, ◌*◌, ◌^◌, ◌≤◌, leb};
 ghost use Rattle.ac3.specs.Marked.{among};
 ghost use Rattle.syntax.specs.Names as Name;

@@ -1,5 +1,7 @@
 // The exponents of a block (4.3.3, 6.1.3): for each slot a first exponent, and then differences, three to a group, each of
 // them for 1, 2 or 4 bins. `exponents` is public because the audio block stands in a crate above.
+#![tactic(auto)]
+
 mod at_hand;
 mod by_slot;
 mod groups;

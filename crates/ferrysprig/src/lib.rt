@@ -1,4 +1,6 @@
 // The functions that Rust and C call. An exported function can take no enum and nothing that leads to one, so answers go as numbers.
+#![tactic(auto)]
+
 mod apart;
 mod packing;
 

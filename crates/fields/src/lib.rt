@@ -1,6 +1,8 @@
 // The rows of a frame as records: a `Field` holds its `Role`, with the programme that the role speaks of, and the row's other
 // seven numbers. Functions with a run of records are proved by hand and are thin; the work on numbers is in functions that take and return a
 // record by value.
+#![tactic(auto)]
+
 ghost use Rattle.std.specs.Prelude.{◌≡◌, ◌≤◌, ◌+◌, ◌*◌, min, ◌/◌, length, replicate, pos};
 ghost use Rattle.std.proofs.lemmas.List.Edits.{sets};
 ghost use Rattle.syntax.specs.Numbers.{row_width};

@@ -1,5 +1,7 @@
 // The header of a frame: syncinfo (4.3.1) and bsi (4.3.2, or D.1.2 when bsid is 6). What is public here is so because the frame stands in a
 // crate above.
+#![tactic(auto)]
+
 ghost use Rattle.std.specs.Prelude.{◌≡◌, cond, ◌<◌, ◌≤◌, eqb};
 ghost use Rattle.syntax.specs.Grammar as syntax;
 ghost use Rattle.syntax.specs.Reads.{Goes, Reads};

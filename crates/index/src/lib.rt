@@ -1,4 +1,6 @@
 // An index beside a capture: an entry for each of its frames, and more of them when bytes were appended.
+#![tactic(auto)]
+
 ghost use Rattle.std.specs.Prelude.{◌≡◌, ◌&&◌, cond, ℕ, ◌+◌, ◌*◌, ◌/◌, ◌<◌, ◌≤◌, eqb, leb, pos, length};
 ghost use Rattle.syntax.specs.Names as Name;
 ghost use Rattle.ac3.specs.Later.{is_short};

@@ -1,5 +1,7 @@
 // The dialogue level of a programme is corrected in the frame: the level is written, the frame's check words follow, and what changed is
 // listed.
+#![tactic(auto)]
+
 ghost use Rattle.std.specs.Prelude.{◌≡◌, ◌<◌, ◌≤◌};
 ghost use Rattle.level.specs.Level.{from_zero, is_present, is_level, ends_in_time, refusal_for, dialnorm_of, position_in, correct_to};
 

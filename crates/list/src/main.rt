@@ -1,5 +1,7 @@
 // Lists one frame: reads it from standard input (at most 3,840 bytes, later ones are not read) and writes its listing as text: a line of
 // nine numbers for each row, and a last line, `audio ROWS BYTES AUDIO_END` or `refused NUMBER ROWS BIT NAME BLOCK`.
+#![tactic(auto)]
+
 ghost use Rattle.std.specs.Prelude.{◌≡◌, length};
 ghost use Rattle.lister.specs.Listed.{rows_lent};
 ghost use Rattle.lister.specs.Written.{most_text};

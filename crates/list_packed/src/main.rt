@@ -1,5 +1,7 @@
 // Lists one frame in the packed form: reads it from standard input (at most 3,840 bytes, later ones are not read), makes the text that the
 // program `list` writes, and packs it.
+#![tactic(auto)]
+
 ghost use Rattle.std.specs.Prelude.{◌≡◌, ◌≤◌, length, take};
 ghost use Rattle.listing.specs.Listing.{packed};
 ghost use Rattle.lister.specs.Listed.{listing, rows_lent, frame_call};

@@ -1,4 +1,6 @@
 // A frame's listing as text: what the program `list` prints. (Public because the programs stand in crates above.)
+#![tactic(auto)]
+
 ghost use Rattle.std.specs.Prelude.{map, not, ◌≡◌, ◌+◌, ◌*◌, ◌≤◌, ◌<◌, eqb, pos, length, replicate};
 ghost use Rattle.std.proofs.lemmas.List.Edits.{sets};
 ghost use Rattle.syntax.specs.Numbers.{row_width};

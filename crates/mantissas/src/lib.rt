@@ -1,6 +1,8 @@
 // The bit allocation of a block (6.2.2.1) and its mantissas (4.3.3, 6.3.5). Mantissas are counted slot by slot, and their bits
 // follow from the counts; only where they do not fit the frame is the one that does not fit looked for, mantissa by mantissa.
 // `mantissas` is public because the audio block stands in a crate above.
+#![tactic(auto)]
+
 mod counting;
 mod in_use;
 mod memos;

@@ -1,4 +1,6 @@
 // Natural numbers: the smaller and the larger of two.
+#![tactic(auto)]
+
 ghost use Rattle.std.specs.Prelude.{◌≡◌, min, max};
 
 pub fn least(a: usize, b: usize) -> usize

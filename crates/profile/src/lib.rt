@@ -1,5 +1,7 @@
 // The contribution profile: the part of AC-3 that a carrier accepts, as seven rules over the fields of a frame. (The rules themselves stand
 // in specs/Rules.)
+#![tactic(auto)]
+
 ghost use Rattle.std.specs.Prelude.{◌≡◌, ◌+◌, ◌*◌, ◌<◌, ◌≤◌, length, drop};
 ghost use Rattle.syntax.specs.Numbers.{row_width};
 ghost use Rattle.rows.specs.Look.{first_where};

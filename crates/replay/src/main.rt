@@ -1,5 +1,7 @@
 // Replays a list of cases with the judge's answers (judge/vectors/README.md says its layout), from standard input: each capture is parsed at
 // its place with its room, and the numbers of the answer and a checksum of the whole room are held against those of the list.
+#![tactic(auto)]
+
 ghost use Rattle.std.specs.Prelude.{◌≡◌, ◌<◌, ◌≤◌, ◌+◌, ◌*◌, length};
 ghost use Rattle.replay.specs.Cases.{said_bytes, numbers_lent};
 

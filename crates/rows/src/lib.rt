@@ -1,5 +1,7 @@
 // Looking into rows as a caller holds them: so many numbers to a row, in a lent run. (Public because operations on a frame's rows stand in
 // crates above.)
+#![tactic(auto)]
+
 ghost use Rattle.std.specs.Prelude.{◌≡◌};
 ghost use Rattle.ac3.specs.Rooms.{natural};
 ghost use Rattle.rows.specs.Look.{first, value_in};

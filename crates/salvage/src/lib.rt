@@ -1,4 +1,6 @@
 // Salvage of a broken capture: its frames one after the other, and a list of frames and gaps.
+#![tactic(auto)]
+
 ghost use Rattle.std.specs.Prelude.{◌≡◌, List, [], ◌∷◌, ℕ, ◌+◌, ◌*◌, ◌/◌, ◌<◌, ◌≤◌, length};
 ghost use Rattle.std.proofs.lemmas.List.Edits.{sets};
 ghost use Rattle.salvage.specs.Walk.{entry_width, close_gap, is_met, keep_frame, meet};

@@ -57,6 +57,7 @@ mag_sub (negsuc a) (pos (suc b)) p q = omega arith
 mag_sub (negsuc a) (negsuc b) {m} {n} p q = mag_subℕ (suc b) (suc a) (m + n) (omega arith) (omega arith)
 
 half : (k : ℕ) → T (ltb 0 k) → 2 ^ (k - 1) + 2 ^ (k - 1) ≡ 2 ^ k
+half zero t = elim t [ ]
 half (suc k) t = let e : suc k - 1 ≡ k = omega arith in rw e (omega (arith, pow-suc 2 k))
 
 -- k is written as a number, so that k - 1 computes

@@ -1,5 +1,7 @@
 // What the sections of an audio block share (4.3.3): the slots of its channels and the bins of each, and what a block leaves to the next one.
 // Slots: full bandwidth channels 0 to 4, coupling 5, LFE 6. What is public here is so because the sections stand in crates above.
+#![tactic(auto)]
+
 ghost use Rattle.std.specs.Prelude.{◌≡◌, ◌<◌};
 ghost use Rattle.slots.specs.Slots as slots;
 

@@ -1,6 +1,8 @@
 // Reads the elements of a syncframe one after the other, and records each as a row of numbers in the rows that the caller lends. A cursor
 // that stopped at a refusal passes through every later reader unchanged, so that the code of a syntax table is the table: one call for each
 // line. What is public here is so because the readers of a frame stand in crates above.
+#![tactic(auto)]
+
 pub mod cursors;
 pub mod elements;
 pub mod items;

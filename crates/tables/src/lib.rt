@@ -1,5 +1,7 @@
 // The tables of TS 102 366. One function reads each, since a table that stands in a goal is written out there. Past its last
 // entry a table has 0.
+#![tactic(auto)]
+
 mod entries;
 
 ghost use Rattle.std.specs.Prelude.{◌≡◌, ◌≤◌, get_or};

@@ -1,5 +1,7 @@
 // Writing into lent bytes and numbers. Each function promises the whole run: what does not fit is not written, and the rest is as it was.
 // (Public because those who write bursts, frames, listings and answers stand in crates above.)
+#![tactic(auto)]
+
 ghost use Rattle.std.specs.Prelude.{map, ◌≡◌, ◌-◌, min, pos, length, replicate};
 ghost use Rattle.std.proofs.lemmas.List.Edits.{sets};
 ghost use Rattle.writer.specs.Words.{word_bytes};

@@ -4,6 +4,6 @@ use Rattle.tables.specs.Tables.{band_end}
 use Rattle.tables.proofs.band_ends.Statement.{statement}
 use Rattle.tables.proofs.band_ends.Tie as tie
 
-pub band-ends-spec : {M : Type 1} → statement M
+pub band_ends_spec : {M : Type 1} → statement M
 unfolding band_end
-band-ends-spec = tie.close (tie.spec (λ c. refl))
+band_ends_spec = tie.close (tie.spec (λ c. refl))

@@ -4,6 +4,6 @@ use Rattle.tables.specs.Tables.{bap}
 use Rattle.tables.proofs.bit_allocation_pointers.Statement.{statement}
 use Rattle.tables.proofs.bit_allocation_pointers.Tie as tie
 
-pub bit-allocation-pointers-spec : {M : Type 1} → statement M
+pub bit_allocation_pointers_spec : {M : Type 1} → statement M
 unfolding bap
-bit-allocation-pointers-spec = tie.close (tie.spec (λ c. refl))
+bit_allocation_pointers_spec = tie.close (tie.spec (λ c. refl))

@@ -6,6 +6,6 @@ use Rattle.tables.specs.Tables.{knee}
 use Rattle.tables.proofs.db_knee.Statement.{statement}
 use Rattle.tables.proofs.db_knee.Tie as tie
 
-pub db-knee-spec : {M : Type 1} → statement M
+pub db_knee_spec : {M : Type 1} → statement M
 unfolding knee
-db-knee-spec = tie.close (tie.spec (λ c. search rules) (λ c. search rules) (λ c. refl) (λ c. let past = c.if1.false in rw get_or-eq_default))
+db_knee_spec = tie.close (tie.spec (λ c. search rules) (λ c. search rules) (λ c. refl) (λ c. let past = c.if-dbpbcod-lt4.false in rw get_or-eq_default))

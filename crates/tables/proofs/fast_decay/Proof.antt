@@ -6,6 +6,6 @@ use Rattle.tables.specs.Tables.{fast_decay}
 use Rattle.tables.proofs.fast_decay.Statement.{statement}
 use Rattle.tables.proofs.fast_decay.Tie as tie
 
-pub fast-decay-spec : {M : Type 1} → statement M
+pub fast_decay_spec : {M : Type 1} → statement M
 unfolding fast_decay
-fast-decay-spec = tie.close (tie.spec (λ c. search rules) (λ c. search rules) (λ c. refl) (λ c. let past = c.if1.false in rw get_or-eq_default))
+fast_decay_spec = tie.close (tie.spec (λ c. search rules) (λ c. search rules) (λ c. refl) (λ c. let past = c.if-fdcycod-lt4.false in rw get_or-eq_default))

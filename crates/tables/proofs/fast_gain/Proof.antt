@@ -6,6 +6,6 @@ use Rattle.tables.specs.Tables.{fast_gain}
 use Rattle.tables.proofs.fast_gain.Statement.{statement}
 use Rattle.tables.proofs.fast_gain.Tie as tie
 
-pub fast-gain-spec : {M : Type 1} → statement M
+pub fast_gain_spec : {M : Type 1} → statement M
 unfolding fast_gain
-fast-gain-spec = tie.close (tie.spec (λ c. search rules) (λ c. search rules) (λ c. refl) (λ c. let past = c.if1.false in rw get_or-eq_default))
+fast_gain_spec = tie.close (tie.spec (λ c. search rules) (λ c. search rules) (λ c. refl) (λ c. let past = c.if-fgaincod-lt8.false in rw get_or-eq_default))

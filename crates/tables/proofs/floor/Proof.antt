@@ -7,9 +7,9 @@ use Rattle.tables.proofs.Rules.{near_at}
 use Rattle.tables.proofs.floor.Statement.{statement}
 use Rattle.tables.proofs.floor.Tie as tie
 
-pub floor-spec : {M : Type 1} → statement M
+pub floor_spec : {M : Type 1} → statement M
 unfolding floor
-floor-spec =
+floor_spec =
     tie.close
     (tie.spec
     (λ c. search rules)
@@ -18,4 +18,4 @@ floor-spec =
     let near = near_at 11 floors tt c.before.before.args.floorcod in
     let is = back_32 _ (below_more {k = 31} near tt).below in
     (is, below_is is near))
-    (λ c. let past = c.if1.false in (rw get_or-eq_default, below_lit tt)))
+    (λ c. let past = c.if-floorcod-lt8.false in (rw get_or-eq_default, below_lit tt)))

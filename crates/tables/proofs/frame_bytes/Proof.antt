@@ -37,18 +37,18 @@ no_rate (suc zero) code a b c = absurd (b refl)
 no_rate (suc (suc zero)) code a b c = absurd (c refl)
 no_rate (suc (suc (suc n))) code a b c = refl
 
-pub frame-bytes-spec : {M : Type 1} → statement M
+pub frame_bytes_spec : {M : Type 1} → statement M
 unfolding frame_bytes
-frame-bytes-spec =
+frame_bytes_spec =
     tie.close
     (tie.spec
     (λ c κs. search rules)
     (λ c. search rules)
-    (λ c. (rw c.before.if1.true (ap (◌*◌ 2) c.words-48.ensures.0), search rules))
+    (λ c. (rw c.before.if-fscod-eq0.true (ap (◌*◌ 2) c.words_48.ensures.0), search rules))
     (λ c κs. search rules)
     (λ c. search rules)
-    (λ c. (rw c.before.if2.true (ap (◌*◌ 2) c.words-44.ensures.0), search rules))
+    (λ c. (rw c.before.if-fscod-eq1.true (ap (◌*◌ 2) c.words_44.ensures.0), search rules))
     (λ c κs. search rules)
     (λ c. search rules)
-    (λ c. (rw c.before.if3.true (ap (◌*◌ 3) c.words-482.ensures.0 ∙ at_32 _), search rules))
-    (λ c. (no_rate _ _ c.before.before.if1.false c.before.if2.false c.if3.false, search rules)))
+    (λ c. (rw c.before.if-fscod-eq2.true (ap (◌*◌ 3) c.words_48-then-fscod-eq2.ensures.0 ∙ at_32 _), search rules))
+    (λ c. (no_rate _ _ c.before.before.if-fscod-eq0.false c.before.if-fscod-eq1.false c.if-fscod-eq2.false, search rules)))

@@ -7,12 +7,12 @@ use Rattle.tables.proofs.Rules.{small_at}
 use Rattle.tables.proofs.gaq_bits.Statement.{statement}
 use Rattle.tables.proofs.gaq_bits.Tie as tie
 
-pub gaq-bits-spec : {M : Type 1} → statement M
+pub gaq_bits_spec : {M : Type 1} → statement M
 unfolding gaq_bits
-gaq-bits-spec =
+gaq_bits_spec =
     tie.close
     (tie.spec
     (λ c. search rules)
     (λ c. search rules)
     (λ c. (refl, small_at 16 gain_bits tt c.before.args.index))
-    (λ c. (sym (get_or-eq_default gain_bits 0 c.if1.false), search rules)))
+    (λ c. (sym (get_or-eq_default gain_bits 0 c.if-index-lt12.false), search rules)))

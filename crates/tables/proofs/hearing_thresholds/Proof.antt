@@ -4,6 +4,6 @@ use Rattle.tables.specs.Tables.{hearing}
 use Rattle.tables.proofs.hearing_thresholds.Statement.{statement}
 use Rattle.tables.proofs.hearing_thresholds.Tie as tie
 
-pub hearing-thresholds-spec : {M : Type 1} → statement M
+pub hearing_thresholds_spec : {M : Type 1} → statement M
 unfolding hearing
-hearing-thresholds-spec = tie.close (tie.spec (λ c. refl))
+hearing_thresholds_spec = tie.close (tie.spec (λ c. refl))

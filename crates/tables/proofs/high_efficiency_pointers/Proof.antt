@@ -4,6 +4,6 @@ use Rattle.tables.specs.Tables.{hebap}
 use Rattle.tables.proofs.high_efficiency_pointers.Statement.{statement}
 use Rattle.tables.proofs.high_efficiency_pointers.Tie as tie
 
-pub high-efficiency-pointers-spec : {M : Type 1} → statement M
+pub high_efficiency_pointers_spec : {M : Type 1} → statement M
 unfolding hebap
-high-efficiency-pointers-spec = tie.close (tie.spec (λ c. refl))
+high_efficiency_pointers_spec = tie.close (tie.spec (λ c. refl))

@@ -7,11 +7,11 @@ use Rattle.tables.proofs.Rules.{small_at}
 use Rattle.tables.proofs.nfchans.Statement.{statement}
 use Rattle.tables.proofs.nfchans.Tie as tie
 
-pub nfchans-spec : {M : Type 1} → statement M
+pub nfchans_spec : {M : Type 1} → statement M
 unfolding nfchans
-nfchans-spec =
+nfchans_spec =
     tie.close
     (tie.spec
     (λ c. search rules)
     (λ c. (refl, small_at 5 channel_counts tt c.before.args.acmod))
-    (λ c. (sym (get_or-eq_default channel_counts 0 c.if1.false), search rules)))
+    (λ c. (sym (get_or-eq_default channel_counts 0 c.if-acmod-lt8.false), search rules)))

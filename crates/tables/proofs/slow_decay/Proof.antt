@@ -6,6 +6,6 @@ use Rattle.tables.specs.Tables.{slow_decay}
 use Rattle.tables.proofs.slow_decay.Statement.{statement}
 use Rattle.tables.proofs.slow_decay.Tie as tie
 
-pub slow-decay-spec : {M : Type 1} → statement M
+pub slow_decay_spec : {M : Type 1} → statement M
 unfolding slow_decay
-slow-decay-spec = tie.close (tie.spec (λ c. search rules) (λ c. search rules) (λ c. refl) (λ c. let past = c.if1.false in rw get_or-eq_default))
+slow_decay_spec = tie.close (tie.spec (λ c. search rules) (λ c. search rules) (λ c. refl) (λ c. let past = c.if-sdcycod-lt4.false in rw get_or-eq_default))

@@ -6,6 +6,6 @@ use Rattle.tables.specs.Tables.{slow_gain}
 use Rattle.tables.proofs.slow_gain.Statement.{statement}
 use Rattle.tables.proofs.slow_gain.Tie as tie
 
-pub slow-gain-spec : {M : Type 1} → statement M
+pub slow_gain_spec : {M : Type 1} → statement M
 unfolding slow_gain
-slow-gain-spec = tie.close (tie.spec (λ c. search rules) (λ c. search rules) (λ c. refl) (λ c. let past = c.if1.false in rw get_or-eq_default))
+slow_gain_spec = tie.close (tie.spec (λ c. search rules) (λ c. search rules) (λ c. refl) (λ c. let past = c.if-sgaincod-lt4.false in rw get_or-eq_default))

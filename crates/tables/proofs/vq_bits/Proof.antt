@@ -6,6 +6,6 @@ use Rattle.tables.specs.Tables.{vq_bits}
 use Rattle.tables.proofs.vq_bits.Statement.{statement}
 use Rattle.tables.proofs.vq_bits.Tie as tie
 
-pub vq-bits-spec : {M : Type 1} → statement M
+pub vq_bits_spec : {M : Type 1} → statement M
 unfolding vq_bits
-vq-bits-spec = tie.close (tie.spec (λ c. search rules) (λ c. search rules) (λ c. refl) (λ c. let past = c.if1.false in rw get_or-eq_default))
+vq_bits_spec = tie.close (tie.spec (λ c. search rules) (λ c. search rules) (λ c. refl) (λ c. let past = c.if-hebap-lt8.false in rw get_or-eq_default))

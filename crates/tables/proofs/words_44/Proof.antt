@@ -7,12 +7,12 @@ use Rattle.tables.proofs.Rules.{small_at}
 use Rattle.tables.proofs.words_44.Statement.{statement}
 use Rattle.tables.proofs.words_44.Tie as tie
 
-pub words-44-spec : {M : Type 1} → statement M
+pub words_44_spec : {M : Type 1} → statement M
 unfolding words44
-words-44-spec =
+words_44_spec =
     tie.close
     (tie.spec
     (λ c. search rules)
     (λ c. search rules)
     (λ c. (refl, small_at 1394 words44 tt c.before.args.frmsizecod))
-    (λ c. (sym (get_or-eq_default words44 0 c.if1.false), search rules)))
+    (λ c. (sym (get_or-eq_default words44 0 c.if-frmsizecod-lt38.false), search rules)))

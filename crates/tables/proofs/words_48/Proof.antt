@@ -7,12 +7,12 @@ use Rattle.tables.proofs.Rules.{small_at}
 use Rattle.tables.proofs.words_48.Statement.{statement}
 use Rattle.tables.proofs.words_48.Tie as tie
 
-pub words-48-spec : {M : Type 1} → statement M
+pub words_48_spec : {M : Type 1} → statement M
 unfolding words48
-words-48-spec =
+words_48_spec =
     tie.close
     (tie.spec
     (λ c. search rules)
     (λ c. search rules)
     (λ c. (refl, small_at 1280 words48 tt c.before.args.half))
-    (λ c. (sym (get_or-eq_default words48 0 c.if1.false), search rules)))
+    (λ c. (sym (get_or-eq_default words48 0 c.if-half-lt19.false), search rules)))

@@ -4,6 +4,9 @@
 mod apart;
 mod packing;
 
+pub use apart::HEADER_ANSWER;
+pub use packing::{PACKING_ANSWER, ferrysprig_pack, ferrysprig_unpack};
+
 ghost use Rattle.std.specs.Prelude.{◌≡◌, ◌≤◌, length};
 ghost use Rattle.bits.specs.Bits.{range_eq};
 ghost use Rattle.syntax.specs.Names as Name;
@@ -114,8 +117,7 @@ fn numbers(a: Answer) -> [i32; ANSWER]
 }
 
 // Parses the frame at a place of a capture into the lent rows, and writes the answer's numbers.
-#[unsafe(no_mangle)]
-pub extern "C" fn ferrysprig_parse(
+pub fn ferrysprig_parse(
     capture: &[u8],
     place: usize,
     rows: &mut [i32],
@@ -128,8 +130,7 @@ pub extern "C" fn ferrysprig_parse(
 }
 
 // Reads the header of the frame at a place of a capture, as far as addbsi, and writes its answer's numbers.
-#[unsafe(no_mangle)]
-pub extern "C" fn ferrysprig_header(
+pub fn ferrysprig_header(
     capture: &[u8],
     place: usize,
     rows: &mut [i32],
@@ -142,8 +143,7 @@ pub extern "C" fn ferrysprig_header(
 
 // Parses the frame at a place of a capture for one who holds ten numbers of its header. They may be any: only those that the header is
 // answered with in this very call are taken, and they are held against these before a row is written.
-#[unsafe(no_mangle)]
-pub extern "C" fn ferrysprig_blocks(
+pub fn ferrysprig_blocks(
     capture: &[u8],
     place: usize,
     rows: &mut [i32],
@@ -159,8 +159,7 @@ pub extern "C" fn ferrysprig_blocks(
 }
 
 // Whether the n bits of x from bit a on are those of y from bit b on. Where either range ends past its slice they are not.
-#[unsafe(no_mangle)]
-pub extern "C" fn ferrysprig_range_eq(x: &[u8], a: usize, y: &[u8], b: usize, n: usize) -> bool
+pub fn ferrysprig_range_eq(x: &[u8], a: usize, y: &[u8], b: usize, n: usize) -> bool
     ensures { result ≡ range_eq x.now a y.now b n }
 {
     bits::range_eq(x, a, y, b, n)
@@ -185,8 +184,7 @@ fn burst_numbers(a: burst::Answer) -> [i32; BURST_ANSWER]
 }
 
 // Writes the frame at a place of a capture as one IEC 61937 burst of 6,144 bytes, and the answer's numbers.
-#[unsafe(no_mangle)]
-pub extern "C" fn ferrysprig_burst_write(
+pub fn ferrysprig_burst_write(
     capture: &[u8],
     place: usize,
     rows: &mut [i32],
@@ -199,8 +197,7 @@ pub extern "C" fn ferrysprig_burst_write(
 }
 
 // Writes the frame of an IEC 61937 burst, and the answer's numbers.
-#[unsafe(no_mangle)]
-pub extern "C" fn ferrysprig_burst_read(
+pub fn ferrysprig_burst_read(
     burst: &[u8],
     rows: &mut [i32],
     out: &mut [u8],
@@ -212,16 +209,14 @@ pub extern "C" fn ferrysprig_burst_read(
 }
 
 // Whether new values in the fields of this name change nothing but themselves.
-#[unsafe(no_mangle)]
-pub extern "C" fn ferrysprig_editable(name: usize) -> bool
+pub fn ferrysprig_editable(name: usize) -> bool
     ensures { result ≡ among name Name.editable }
 {
     edits::editable(name)
 }
 
 // Writes a value of this width at a bit of the frame that starts at a place of the capture, and answers the refusal.
-#[unsafe(no_mangle)]
-pub extern "C" fn ferrysprig_set(
+pub fn ferrysprig_set(
     capture: &mut [u8],
     place: usize,
     position: usize,
@@ -242,8 +237,7 @@ fn salvage_numbers(a: salvage::Answer) -> [usize; SALVAGE_ANSWER]
 
 // Goes through a broken capture: its frames are written one after the other, frames and gaps are listed, three numbers to an entry (kind,
 // place, length), and then the answer's numbers are written.
-#[unsafe(no_mangle)]
-pub extern "C" fn ferrysprig_salvage(
+pub fn ferrysprig_salvage(
     capture: &[u8],
     rows: &mut [i32],
     list: &mut [usize],
@@ -257,8 +251,7 @@ pub extern "C" fn ferrysprig_salvage(
 
 // Makes an index of a capture, or extends one that holds so many entries, five numbers to an entry (place, length, acmod, dialnorm, second
 // dialnorm), and then writes the answer's numbers.
-#[unsafe(no_mangle)]
-pub extern "C" fn ferrysprig_index(
+pub fn ferrysprig_index(
     capture: &[u8],
     rows: &mut [i32],
     index: &mut [usize],
@@ -273,8 +266,7 @@ pub extern "C" fn ferrysprig_index(
 
 // Walks over an AHT section from bit `at` on, with the bins from first up to past, where nothing may end past bit `end`, and writes the
 // answer's numbers.
-#[unsafe(no_mangle)]
-pub extern "C" fn ferrysprig_aht(
+pub fn ferrysprig_aht(
     bytes: &[u8],
     at: usize,
     end: usize,
@@ -315,8 +307,7 @@ fn profile_numbers(a: profile::Answer) -> [i32; PROFILE_ANSWER]
 }
 
 // Holds the frame at a place of a capture against the contribution profile, and writes the answer's numbers.
-#[unsafe(no_mangle)]
-pub extern "C" fn ferrysprig_profile(
+pub fn ferrysprig_profile(
     capture: &[u8],
     place: usize,
     rows: &mut [i32],
@@ -337,8 +328,7 @@ fn level_numbers(a: level::Answer) -> [i32; LEVEL_ANSWER]
 
 // Corrects the level of a programme, counted from 1, in the frame at a place of a capture, lists what changed, three numbers to a change
 // (name, old value, new value), and writes the answer's numbers. On a refusal capture and changes are untouched.
-#[unsafe(no_mangle)]
-pub extern "C" fn ferrysprig_correct(
+pub fn ferrysprig_correct(
     capture: &mut [u8],
     place: usize,
     programme: usize,

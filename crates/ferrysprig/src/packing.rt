@@ -13,8 +13,7 @@ fn packing_numbers(a: packed::Answer) -> [usize; PACKING_ANSWER]
 }
 
 // Packs a listing's text into the front of `out`, and writes the answer's numbers.
-#[unsafe(no_mangle)]
-pub extern "C" fn ferrysprig_pack(
+pub fn ferrysprig_pack(
     listing: &[u8],
     out: &mut [u8],
     answer: &mut [usize; PACKING_ANSWER],
@@ -25,8 +24,7 @@ pub extern "C" fn ferrysprig_pack(
 }
 
 // Writes the text of a packed listing into the front of `out`, and then the answer's numbers.
-#[unsafe(no_mangle)]
-pub extern "C" fn ferrysprig_unpack(
+pub fn ferrysprig_unpack(
     packed: &[u8],
     out: &mut [u8],
     answer: &mut [usize; PACKING_ANSWER],

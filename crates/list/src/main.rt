@@ -6,8 +6,10 @@ ghost use Rattle.std.specs.Prelude.{◌≡◌, length};
 ghost use Rattle.lister.specs.Listed.{rows_lent};
 ghost use Rattle.lister.specs.Written.{most_text};
 
-use libc::{STDIN_FILENO, STDOUT_FILENO};
+use input::read_full;
 use lister::TEXT;
+use std::io;
+use std::io::Write;
 
 // The ensures give the lengths, which lending the arrays needs.
 fn no_bytes() -> [u8; 3840]
@@ -22,10 +24,10 @@ fn no_text() -> [u8; TEXT]
     [0u8; TEXT]
 }
 
-fn main() {
+fn main(rt: HostRuntime) -> io::Result<()> {
     let mut frame = no_bytes();
     let mut out = no_text();
-    let n = io::read_full(STDIN_FILENO, &mut frame);
+    let n = read_full(&mut rt.reader(), &mut frame)?;
     let size = lister::listed(&frame[..n], &mut out);
-    io::write_all(STDOUT_FILENO, &out[..size]);
+    io::writer(&rt).write_all(&out[..size])
 }

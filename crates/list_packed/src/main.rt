@@ -7,8 +7,10 @@ ghost use Rattle.listing.specs.Listing.{packed};
 ghost use Rattle.lister.specs.Listed.{listing, rows_lent, frame_call};
 ghost use Rattle.lister.specs.Written.{most_text};
 
-use libc::{STDIN_FILENO, STDOUT_FILENO};
+use input::read_full;
 use lister::TEXT;
+use std::io;
+use std::io::Write;
 
 // The ensures give the lengths, which lending the arrays needs.
 fn no_bytes() -> [u8; 3840]
@@ -34,10 +36,10 @@ fn listed_packed(frame: &[u8], out: &mut [u8]) -> usize
     packed.written
 }
 
-fn main() {
+fn main(rt: HostRuntime) -> io::Result<()> {
     let mut frame = no_bytes();
     let mut out = no_text();
-    let n = io::read_full(STDIN_FILENO, &mut frame);
+    let n = read_full(&mut rt.reader(), &mut frame)?;
     let size = listed_packed(&frame[..n], &mut out);
-    io::write_all(STDOUT_FILENO, &out[..size]);
+    io::writer(&rt).write_all(&out[..size])
 }

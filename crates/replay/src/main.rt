@@ -2,11 +2,13 @@
 // its place with its room, and the numbers of the answer and a checksum of the whole room are held against those of the list.
 #![tactic(auto)]
 
-ghost use Rattle.std.specs.Prelude.{◌≡◌, ◌<◌, ◌≤◌, ◌+◌, ◌*◌, length};
+ghost use Rattle.std.specs.Prelude.{◌≡◌, ◌<◌, ◌≤◌, ◌+◌, ◌*◌, length, IfOk};
 ghost use Rattle.replay.specs.Cases.{said_bytes, numbers_lent};
 
 use ferrysprig::ANSWER;
-use libc::{STDIN_FILENO, STDOUT_FILENO};
+use input::read_full;
+use std::io;
+use std::io::Read;
 use syntax::ROW;
 
 // What is said of an answer: four bytes to a number, and to the checksum of the room. The numbers of the largest room: 4,096 rows.
@@ -107,17 +109,17 @@ struct Sizes {
     numbers: usize,
 }
 
-fn read_sizes() -> Sizes {
+fn read_sizes<R: Read>(reader: &mut R) -> io::Result<Sizes> {
     let mut b = [0u8; 8];
-    io::read_full(STDIN_FILENO, &mut b);
-    Sizes {
+    read_full(reader, &mut b)?;
+    Ok(Sizes {
         bytes: (wide(b[0]) * 256 + wide(b[1])) as usize,
         place: (wide(b[2]) * 256 + wide(b[3])) as usize,
         numbers: (wide(b[4]) * 16777216
             + wide(b[5]) * 65536
             + wide(b[6]) * 256
             + wide(b[7])) as usize,
-    }
+    })
 }
 
 // The ensures give the lengths, which lending a part needs.
@@ -134,56 +136,60 @@ fn no_numbers() -> [i32; NUMBERS]
 }
 
 // Reads one case, and answers whether the port answers as the list says. A case that is cut short does not.
-fn replay() -> bool {
-    let sizes = read_sizes();
+fn replay<R: Read>(reader: &mut R) -> io::Result<bool> {
+    let sizes = read_sizes(reader)?;
     let bytes = sizes.bytes;
     let numbers = sizes.numbers;
     let mut capture = no_bytes();
     let mut said = [0u8; SAID];
     let mut room = no_numbers();
     if 8192 < bytes {
-        return false;
+        return Ok(false);
     }
     if NUMBERS < numbers {
-        return false;
+        return Ok(false);
     }
-    if io::read_full(STDIN_FILENO, &mut capture[..bytes]) != bytes {
-        return false;
+    if read_full(reader, &mut capture[..bytes])? != bytes {
+        return Ok(false);
     }
-    if io::read_full(STDIN_FILENO, &mut said) != SAID {
-        return false;
+    if read_full(reader, &mut said)? != SAID {
+        return Ok(false);
     }
-    as_said(&capture[..bytes], sizes.place, &mut room[..numbers], &said)
+    Ok(as_said(
+        &capture[..bytes],
+        sizes.place,
+        &mut room[..numbers],
+        &said,
+    ))
 }
 
 // The number of cases, or 0 where the list does not begin as one.
-fn read_count() -> usize {
+fn read_count<R: Read>(reader: &mut R) -> io::Result<usize> {
     let mut b = [0u8; 8];
-    io::read_full(STDIN_FILENO, &mut b);
+    read_full(reader, &mut b)?;
     if b[0] != b'A' || b[1] != b'C' || b[2] != b'3' || b[3] != b'J' {
-        return 0;
+        return Ok(0);
     }
-    (wide(b[4]) * 16777216 + wide(b[5]) * 65536 + wide(b[6]) * 256 + wide(b[7])) as usize
+    Ok((wide(b[4]) * 16777216 + wide(b[5]) * 65536 + wide(b[6]) * 256 + wide(b[7])) as usize)
 }
 
 // How many of so many cases are not as the list says.
-fn differences(count: usize) -> usize
-    ensures { result ≤ count }
+fn differences<R: Read>(reader: &mut R, count: usize) -> io::Result<usize>
+    ensures { IfOk result (λ found. found ≤ count) }
 {
     let mut found = 0;
     for i in 0..count {
-        if !replay() {
+        if !replay(reader)? {
             found += 1;
         }
     }
-    found
+    Ok(found)
 }
 
-fn main() {
-    let count = read_count();
-    let found = differences(count);
-    io::print_decimal(STDOUT_FILENO, count as u64);
-    io::write_all(STDOUT_FILENO, b" cases, ");
-    io::print_decimal(STDOUT_FILENO, found as u64);
-    io::write_all(STDOUT_FILENO, b" differences\n");
+fn main(rt: HostRuntime) -> io::Result<()> {
+    let mut reader = rt.reader();
+    let count = read_count(&mut reader)?;
+    let found = differences(&mut reader, count)?;
+    println!(rt; "{count} cases, {found} differences")?;
+    Ok(())
 }

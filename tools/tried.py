@@ -11,8 +11,8 @@ import os, re, subprocess, sys
 ROOT = os.path.dirname(os.path.dirname(os.path.abspath(__file__)))
 HEAD = """-- Frames on which the definition gives what the Rust gives, as `ac3/specs/Listing.antt` says it in short.
 -- Made by tools/tried.py from tools/frames.txt. Assumes nothing.
-use mathlib.Core.List.{List, [], _∷_, _++_}
-use mathlib.Core.Path.{_≡_, refl}
+use mathlib.Core.List.{List, [], ◌∷◌, ◌++◌}
+use mathlib.Core.Path.{◌≡◌, refl}
 use Prim.Native.Nat.{ℕ}"""
 
 
@@ -50,7 +50,7 @@ def used(start):
         path = f"{ROOT}/crates/{crate}/specs/{file}.antt"
         if crate in CRATES and (crate, file) not in found and os.path.exists(path):
             found.add((crate, file))
-            todo += re.findall(r"^use Rattle·(\w+)(?:·specs)?\.specs\.(\w+)\b", open(path).read(), re.M)
+            todo += re.findall(r"^use Rattle\.(\w+)\.specs\.(\w+)\b", open(path).read(), re.M)
     return found
 
 
@@ -60,7 +60,7 @@ def unfoldable():
     for crate, file in sorted(used(("ac3", "Listing")), key=lambda f: (CRATES.index(f[0]), f[1])):
         names = re.findall(r"^\s*unfoldable pub (\S+) :", open(f"{ROOT}/crates/{crate}/specs/{file}.antt").read(), re.M)
         if names:
-            found[f"Rattle·{crate}.specs.{file}"] = names
+            found[f"Rattle.{crate}.specs.{file}"] = names
     return found
 
 
@@ -90,7 +90,7 @@ def main():
     print(HEAD)
     for module, ns in names.items():
         print(f"use {module}.{{" + ", ".join(n if tag(module, n) == n else f"{n} as {tag(module, n)}" for n in ns) + "}")
-    print("use Rattle·ac3.specs.Listing.{listing}")
+    print("use Rattle.ac3.specs.Listing.{listing}")
     for name, hexed, comment in frames:
         print(f"\n-- {comment}\nabbrev {name} : List ℕ\n{name} =\n    {written(hexed)}")
     for name, parts in statements:

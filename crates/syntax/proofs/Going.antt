@@ -1,7 +1,7 @@
 -- Where reading goes on at the end, it went on at the start. Assumes nothing.
 use Prim.Native.Nat.{ℕ}
 use mathlib.Core.List.{List}
-use mathlib.Core.Path.{◌≡◌, ap, sym, ◌∙◌}
+use mathlib.Core.Path.{ap, sym, ◌∙◌}
 use lib.IntN.{ℤ}
 use Rattle.syntax.specs.declared.Cursor.{Cursor}
 use Rattle.syntax.specs.declared.Refusal.{Refusal}

@@ -1,7 +1,7 @@
 -- A run writes the rows of the reading without limits until a check stops it, and a check of an item stops it with refusal 6 exactly where
 -- this item would end past the frame: so its row is the next one of the reading. Assumes nothing.
 use mathlib.Core.Bool.{Bool, true, false, ◌&&◌, not, cond}
-use mathlib.Core.List.{List, [], ◌∷◌, ◌++◌}
+use mathlib.Core.List.{List, [], ◌∷◌}
 use mathlib.Core.Logic.{◌⊎◌, inl, inr}
 use mathlib.Core.Path.{◌≡◌, refl, ap, sym, subst, ◌∙◌}
 use Prim.Native.Nat.{ℕ, zero, suc, ◌+◌, ◌<◌}
@@ -13,7 +13,7 @@ use Rattle.syntax.specs.declared.Item.{Item}
 use Rattle.syntax.specs.declared.Refusal.{Refusal}
 use Rattle.syntax.specs.Refusals.{past, full}
 use Rattle.syntax.specs.Grammar.{Grammar}
-use Rattle.syntax.specs.Run.{Row, Spot, End, refused, Result, Check, clear, stop, room_check, check, row_check, walk_check, frame_check, sum, unless, run, start, parse, ◌after◌, ended, beyond, within}
+use Rattle.syntax.specs.Run.{Row, Spot, End, refused, Result, Check, clear, stop, room_check, check, row_check, walk_check, frame_check, sum, unless, run, ◌after◌, ended, beyond, within}
 use Rattle.syntax.specs.Unlimited.{read}
 use Rattle.syntax.specs.Unfitting.{Next, Neither, Unfitting, is_judged, Judges, j_done, j_refuse, j_field, j_free, j_span, j_walk, j_frame, j_here}
 

@@ -14,7 +14,7 @@ use Rattle.syntax.specs.Grammar.{pieces}
 use Rattle.syntax.specs.Run.{spanning, row, sum, Check, clear, stop, check, walk_check}
 use Rattle.syntax.specs.Place.{Place, Outcome, got, spot, put, stand, except, exec}
 use Rattle.syntax.specs.Refusals.{past}
-use Rattle.syntax.specs.Reads.{Unmoved, halted, onward, place, from, seen, closed, Writes, stepped, walked, Reads}
+use Rattle.syntax.specs.Reads.{Unmoved, halted, onward, place, from, closed, Writes, stepped, walked, Reads}
 use Rattle.syntax.proofs.Going.{goes_before}
 
 -- one walk and then another

@@ -1,6 +1,6 @@
 -- The words of the code's contracts; no part of the definition. A cursor beside the lent numbers is a place, and a cursor that stopped at a
 -- refusal stays as it is.
-use Rattle.std.specs.Prelude.{ℕ, ◌+◌, ◌-◌, ◌≡◌, Bool, true, false, cond, List, [], ◌∷◌, ℤ, length, ltb, eqb}
+use Rattle.std.specs.Prelude.{ℕ, ◌+◌, ◌-◌, ◌≡◌, Bool, false, cond, List, [], ◌∷◌, ℤ, length, ltb, eqb}
 use Rattle.syntax.specs.declared.Item.{Item}
 use Rattle.syntax.specs.declared.Refusal.{Refusal}
 use Rattle.syntax.specs.declared.Cursor.{Cursor}

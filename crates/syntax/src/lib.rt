@@ -18,7 +18,7 @@ pub const ROW: usize = 9;
 pub const NONE: u8 = 255;
 
 // What an element means to the metadata editor. Everything not listed is Plain.
-#[derive(Drop)]
+#[derive(Clone, Copy)]
 pub enum Role {
     Plain,
     Sync,
@@ -45,7 +45,7 @@ pub enum Role {
 
 // An element of the syntax: all that its row says but the position, the width and the value. Its part is the band, the group or the segment
 // of an element that is sent for each. (A walk's width is known only at its end, so a width stands beside the item.)
-#[derive(Drop)]
+#[derive(Clone, Copy)]
 pub struct Item {
     pub name: u8,
     pub role: Role,
@@ -55,11 +55,11 @@ pub struct Item {
 }
 
 // The two numbers of a row that say its role: the role's, and the programme that it speaks of.
-#[derive(Drop)]
+#[derive(Clone, Copy)]
 pub struct RoleNumbers(pub u8, pub u8);
 
 // Why reading stopped: the refusal's number, 0 while there is none; and the name and the block of the element that did not fit.
-#[derive(Drop)]
+#[derive(Clone, Copy)]
 pub struct Refusal {
     pub number: u16,
     pub name: u8,
@@ -67,7 +67,7 @@ pub struct Refusal {
 }
 
 // Where reading stands: the first bit not yet read, the frame's end in bits, the rows written, and the refusal.
-#[derive(Drop)]
+#[derive(Clone, Copy)]
 pub struct Cursor {
     pub count: usize,
     pub at: u16,
@@ -76,14 +76,14 @@ pub struct Cursor {
 }
 
 // A value that was read, and where reading stands then.
-#[derive(Drop)]
+#[derive(Clone, Copy)]
 pub struct Taken {
     pub value: u32,
     pub cursor: Cursor,
 }
 
 // A flag that was read, and where reading stands then.
-#[derive(Drop)]
+#[derive(Clone, Copy)]
 pub struct Flagged {
     pub set: bool,
     pub cursor: Cursor,

@@ -4,8 +4,8 @@ use borrow.Author.Rules.{rules}
 use Rattle.syntax.proofs.cursors.ends_past.Statement.{statement}
 use Rattle.syntax.proofs.cursors.ends_past.Tie as tie
 
-pub ends-past-spec : {M : Type 1} → statement M
-ends-past-spec =
+pub ends_past_spec : {M : Type 1} → statement M
+ends_past_spec =
     tie.close
     (tie.spec
     (λ c. search rules)  -- cast_result

@@ -5,11 +5,11 @@ use Rattle.syntax.proofs.Sequence.{judged_stopped, judged_good, judged_bad}
 use Rattle.syntax.proofs.cursors.refuse_if.Statement.{statement}
 use Rattle.syntax.proofs.cursors.refuse_if.Tie as tie
 
-pub refuse-if-spec : {M : Type 1} → statement M
-refuse-if-spec =
+pub refuse_if_spec : {M : Type 1} → statement M
+refuse_if_spec =
     tie.close
     (tie.spec
-    (λ c. judged_stopped c.if1.true)  -- returns
+    (λ c. judged_stopped c.if-c-ne0.true)  -- returns
     (λ c κs. search rules)  -- halt-requires
-    (λ c. rw c.halt.ensures (judged_bad (omega arith) c.before.before.if1.false c.before.if2.true))  -- returns-2
-    (λ c. judged_good c.if2.false))  -- returns-3
+    (λ c. rw c.halt.ensures (judged_bad (omega arith) c.before.before.if-c-ne0.false c.before.if-bad.true))  -- returns-2
+    (λ c. judged_good c.if-bad.false))  -- returns-3

@@ -11,20 +11,20 @@ pub step_spec : {M : Type 1} → statement M
 step_spec =
     tie.close
     (tie.spec
-    (λ c. simp (ne_eqb _ 0 c.if1.true))  -- returns
+    (λ c. simp (ne_eqb _ 0 c.if-c-ne0.true))  -- returns
     (λ c κs. search rules)  -- ends-past-requires
     (λ c κs. search rules)  -- past-requires
     (λ c κs. search rules)  -- halt-requires
     (λ c.
     let t = c.before.before in
     let tested = t.before in
-    rw (c.halt.ensures, c.before.past.ensures) (simp (eq-eqb _ 0 tested.before.if1.false, sym tested.ends-past.ensures ∙ t.if2.true)))  -- returns-2
+    rw (c.halt.ensures, c.before.past.ensures) (simp (eq-eqb _ 0 tested.before.if-c-ne0.false, sym tested.ends_past.ensures ∙ t.if-ends_past.true)))  -- returns-2
     (λ c.
     let t = c.before in
     let args = t.before.before.before.before.args in
-    omega (arith, ltb-false args.c.limit (args.c.at + args.width) (sym t.before.ends-past.ensures ∙ t.if2.false)))  -- add-go-to
+    omega (arith, ltb-false args.c.limit (args.c.at + args.width) (sym t.before.ends_past.ensures ∙ t.if-ends_past.false)))  -- add-go-to
     (λ c κs. search rules)  -- go-to-requires
     (λ c.
     let t = c.before.before in
     let tested = t.before in
-    rw c.go-to.ensures (simp (eq-eqb _ 0 tested.before.if1.false, sym tested.ends-past.ensures ∙ t.if2.false))))  -- returns-3
+    rw c.go_to.ensures (simp (eq-eqb _ 0 tested.before.if-c-ne0.false, sym tested.ends_past.ensures ∙ t.if-ends_past.false))))  -- returns-3

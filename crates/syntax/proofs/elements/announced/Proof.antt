@@ -8,12 +8,12 @@ reads : tie.Need-returns
 reads c =
     let t2 = c.before in
     let t1 = t2.before.before in
-    then _ (rw t1.before.one.ensures at t1.flag.ensures)
-    (then _ (judged c.refuse-if.ensures t2.and-not.ensures)
+    then _ (rw t1.before.one.ensures at t1.flag-sent.ensures)
+    (then _ (judged c.refuse_if-cursor.ensures t2.and_not.ensures)
     finished)
 
-pub announced-spec : {M : Type 1} → statement M
-announced-spec =
+pub announced_spec : {M : Type 1} → statement M
+announced_spec =
     tie.close
     (tie.spec
     (λ c κs. tt)  -- one-requires

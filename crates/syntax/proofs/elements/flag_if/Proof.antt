@@ -4,11 +4,11 @@ use Rattle.syntax.proofs.Sequence.{finished}
 use Rattle.syntax.proofs.elements.flag_if.Statement.{statement}
 use Rattle.syntax.proofs.elements.flag_if.Tie as tie
 
-pub flag-if-spec : {M : Type 1} → statement M
-flag-if-spec =
+pub flag_if_spec : {M : Type 1} → statement M
+flag_if_spec =
     tie.close
     (tie.spec
     (λ c κs. search rules)  -- flag-requires
     (λ c. search rules)  -- same-length
-    (λ c. let t = c.before in rw t.before.before.if1.true t.flag.ensures)  -- returns
-    (λ c. rw c.if1.false finished))  -- returns-2
+    (λ c. let t = c.before in rw t.before.before.if-present.true t.flag.ensures)  -- returns
+    (λ c. rw c.if-present.false finished))  -- returns-2

@@ -6,27 +6,27 @@ use Rattle.syntax.proofs.Sequence.{Turns, begins, turn, ends}
 use Rattle.syntax.proofs.elements.flags.Statement.{statement}
 use Rattle.syntax.proofs.elements.flags.Tie as tie
 
-abbrev invariant-loop : tie.invariant-loop
-invariant-loop s rows₀ blk name count cursor₀ i₀ rows cursor i = Turns (λ i _. note (nth blk name i) 1) 0 count tt s cursor₀ rows₀ i tt cursor rows
+abbrev invariant-loop-i : tie.invariant-loop-i
+invariant-loop-i s rows₀ blk name count cursor₀ i₀ rows cursor i = Turns (λ i _. note (nth blk name i) 1) 0 count tt s cursor₀ rows₀ i tt cursor rows
 
-abbrev decreases-loop : tie.decreases-loop
-decreases-loop s rows₀ blk name count cursor₀ i₀ rows cursor i = count - i
+abbrev decreases-loop-i : tie.decreases-loop-i
+decreases-loop-i s rows₀ blk name count cursor₀ i₀ rows cursor i = count - i
 
-again : tie.Need-loop-preserved invariant-loop decreases-loop
+again : tie.Need-loop-i-preserved invariant-loop-i decreases-loop-i
 again c =
     let t = c.before in
     let test = t.before.before.before in
-    turn test.before.loop.invariant test.loop-test.true (rw t.before.nth.ensures at t.note.ensures)
+    turn test.before.loop-i.invariant test.loop-i-test.true (rw t.before.nth.ensures at t.note-cursor.ensures)
 
-reads : tie.Need-returns invariant-loop decreases-loop
-reads c = ends c.before.loop.invariant c.loop-test.false
+reads : tie.Need-returns invariant-loop-i decreases-loop-i
+reads c = ends c.before.loop-i.invariant c.loop-i-test.false
 
-pub flags-spec : {M : Type 1} → statement M
-flags-spec =
+pub flags_spec : {M : Type 1} → statement M
+flags_spec =
     tie.close
     (tie.spec
-    invariant-loop
-    decreases-loop
+    invariant-loop-i
+    decreases-loop-i
     (λ c. begins)  -- loop_holds
     (λ c κs. tt)  -- nth-requires
     (λ c κs. search rules)  -- note-requires

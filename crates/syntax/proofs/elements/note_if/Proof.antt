@@ -4,11 +4,11 @@ use Rattle.syntax.proofs.Sequence.{finished}
 use Rattle.syntax.proofs.elements.note_if.Statement.{statement}
 use Rattle.syntax.proofs.elements.note_if.Tie as tie
 
-pub note-if-spec : {M : Type 1} → statement M
-note-if-spec =
+pub note_if_spec : {M : Type 1} → statement M
+note_if_spec =
     tie.close
     (tie.spec
     (λ c κs. search rules)  -- note-requires
     (λ c. search rules)  -- same-length
-    (λ c. let t = c.before in rw t.before.before.if1.true t.note.ensures)  -- returns
-    (λ c. rw c.if1.false finished))  -- returns-2
+    (λ c. let t = c.before in rw t.before.before.if-present.true t.note.ensures)  -- returns
+    (λ c. rw c.if-present.false finished))  -- returns-2

@@ -5,11 +5,11 @@ use Rattle.syntax.proofs.Sequence.{finished}
 use Rattle.syntax.proofs.elements.take_if.Statement.{statement}
 use Rattle.syntax.proofs.elements.take_if.Tie as tie
 
-pub take-if-spec : {M : Type 1} → statement M
-take-if-spec =
+pub take_if_spec : {M : Type 1} → statement M
+take_if_spec =
     tie.close
     (tie.spec
     (λ c κs. search rules)  -- take-requires
     (λ c. search rules)  -- same-length
-    (λ c. let t = c.before in rw t.before.before.if1.true t.take.ensures)  -- returns
-    (λ c. (rw c.if1.false finished, pow_pos _)))  -- returns-2
+    (λ c. let t = c.before in rw t.before.before.if-present.true t.take.ensures)  -- returns
+    (λ c. (rw c.if-present.false finished, pow_pos _)))  -- returns-2

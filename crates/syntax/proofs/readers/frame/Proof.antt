@@ -5,12 +5,12 @@ use Rattle.syntax.proofs.Sequence.{stopped, framed_short, framed_whole}
 use Rattle.syntax.proofs.readers.frame.Statement.{statement}
 use Rattle.syntax.proofs.readers.frame.Tie as tie
 
-pub frame-spec : {M : Type 1} → statement M
-frame-spec =
+pub frame_spec : {M : Type 1} → statement M
+frame_spec =
     tie.close
     (tie.spec
-    (λ c room. stopped c.if1.true)  -- returns
+    (λ c room. stopped c.if-c-ne0.true)  -- returns
     (λ c κs. search rules)  -- halt-requires
-    (λ c room. rw c.halt.ensures (framed_short (omega arith) c.before.before.if1.false c.before.if2.true))  -- returns-2
+    (λ c room. rw c.halt.ensures (framed_short (omega arith) c.before.before.if-c-ne0.false c.before.if-s-bytes.true))  -- returns-2
     (λ c. search rules)  -- mul-limit
-    (λ c room. framed_whole c.before.before.if1.false c.before.if2.false))  -- returns-3
+    (λ c room. framed_whole c.before.before.if-c-ne0.false c.before.if-s-bytes.false))  -- returns-3

@@ -11,4 +11,4 @@ pass_spec =
     (tie.spec
     (λ c κs. search rules)  -- put-requires
     (λ c. search rules)  -- same-length
-    (λ c s. passed c.before.put.ensures c.before.put.auto.0 refl))  -- returns
+    (λ c s. passed c.before.put.ensures c.before.put.auto.rows refl))  -- returns

@@ -12,6 +12,6 @@ take_spec =
     (tie.spec
     (λ c. search rules)  -- cast-get
     (λ c κs. search rules)  -- get-requires
-    (λ c κs. rw c.before.get.ensures (value_lt_16 _ _ _ (search rules)))  -- put-requires
+    (λ c κs. rw c.before.get-value.ensures (value_lt_16 _ _ _ (search rules)))  -- put-requires
     (λ c. search rules)  -- same-length
-    (λ c. let read = c.before.before.before.get.ensures ∙ whole _ _ _ (search rules) in (taken c.before.put.ensures c.before.put.auto.0 read, rw read (value_lt _ _ _))))  -- returns
+    (λ c. let read = c.before.before.before.get-value.ensures ∙ whole _ _ _ (search rules) in (taken c.before.put-cursor.ensures c.before.put-cursor.auto.rows read, rw read (value_lt _ _ _))))  -- returns

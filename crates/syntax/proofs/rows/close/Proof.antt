@@ -10,7 +10,7 @@ unfolding from
 close_spec =
     tie.close
     (tie.spec
-    (λ c. writes_stopped c.if1.true)  -- returns
+    (λ c. writes_stopped c.if-c-ne0.true)  -- returns
     (λ c. search rules)  -- sub-enter
     (λ c κs. search rules)  -- enter-requires
     (λ c. search rules)  -- same-length

@@ -12,7 +12,7 @@ enter_spec =
     (λ c κs. search rules)  -- halt-requires
     (λ c.
     let args = c.before.before.args in
-    rw c.halt.ensures (entered_full args.item args.width args.value (search rules) args.start (omega (arith, c.before.if1.true))))  -- returns
+    rw c.halt.ensures (entered_full args.item args.width args.value (search rules) args.start (omega (arith, c.before.if-rows-count.true))))  -- returns
     (λ c. search rules)  -- mul-write-row
     (λ c κs. search rules)  -- write-row-requires
     (λ c. search rules)  -- add-at
@@ -21,4 +21,4 @@ enter_spec =
     (λ c.
     let t = c.before.before in
     let args = t.before.before.before.args in
-    rw t.write-row.ensures (entered_row args.item args.width args.value (search rules) args.start (omega (arith, t.before.before.if1.false)))))  -- returns-2
+    rw t.write_row.ensures (entered_row args.item args.width args.value (search rules) args.start (omega (arith, t.before.before.if-rows-count.false)))))  -- returns-2

@@ -12,7 +12,7 @@ pub put_spec : {M : Type 1} → statement M
 put_spec =
     tie.close
     (tie.spec
-    (λ c. writes_stopped c.if1.true)  -- returns
+    (λ c. writes_stopped c.if-c-ne0.true)  -- returns
     (λ c κs. search rules)  -- ends-past-requires
     (λ c κs. search rules)  -- past-requires
     (λ c κs. search rules)  -- halt-requires
@@ -20,15 +20,15 @@ put_spec =
     let t = c.before.before in
     let tested = t.before in
     let args = tested.before.before.before.args in
-    rw (c.halt.ensures, c.before.past.ensures) (recorded_past args.item args.width args.value tested.before.if1.false (sym tested.ends-past.ensures ∙ t.if2.true)))  -- returns-2
+    rw (c.halt.ensures, c.before.past.ensures) (recorded_past args.item args.width args.value tested.before.if-c-ne0.false (sym tested.ends_past.ensures ∙ t.if-ends_past.true)))  -- returns-2
     (λ c κs.
     let t = c.before in
     let tested = t.before in
     let args = tested.before.before.before.args in
-    (tested.before.if1.false, (omega (arith, ltb-false args.c.limit (args.c.at + args.width) (sym tested.ends-past.ensures ∙ t.if2.false)), search rules)))  -- enter-requires
+    (tested.before.if-c-ne0.false, (omega (arith, ltb-false args.c.limit (args.c.at + args.width) (sym tested.ends_past.ensures ∙ t.if-ends_past.false)), search rules)))  -- enter-requires
     (λ c. search rules)  -- same-length
     (λ c.
     let t = c.before.before.before in
     let tested = t.before in
     let args = tested.before.before.before.args in
-    recorded_fits args.item args.width args.value tested.before.if1.false (sym tested.ends-past.ensures ∙ t.if2.false) c.before.enter.ensures))  -- returns-3
+    recorded_fits args.item args.width args.value tested.before.if-c-ne0.false (sym tested.ends_past.ensures ∙ t.if-ends_past.false) c.before.enter.ensures))  -- returns-3

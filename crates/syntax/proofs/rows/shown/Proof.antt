@@ -7,11 +7,11 @@ use Rattle.syntax.proofs.Signed.{widened}
 use Rattle.syntax.proofs.rows.shown.Statement.{statement}
 use Rattle.syntax.proofs.rows.shown.Tie as tie
 
-pub shown-spec : {M : Type 1} → statement M
+pub shown_spec : {M : Type 1} → statement M
 unfolding shown
-shown-spec =
+shown_spec =
     tie.close
     (tie.spec
     (λ c. search rules)  -- cast_result
-    (λ c. simp (eq-eqb _ 255 c.if1.true))  -- returns
-    (λ c. simp (widened c.before.args.n (omega arith), ne_eqb _ 255 c.if1.false)))  -- returns-2
+    (λ c. simp (eq-eqb _ 255 c.if-n-eq-NONE.true))  -- returns
+    (λ c. simp (widened c.before.args.n (omega arith), ne_eqb _ 255 c.if-n-eq-NONE.false)))  -- returns-2

@@ -9,8 +9,8 @@ use Rattle.syntax.proofs.Signed.{widened}
 use Rattle.syntax.proofs.rows.write_row.Statement.{statement}
 use Rattle.syntax.proofs.rows.write_row.Tie as tie
 
-pub write-row-spec : {M : Type 1} → statement M
-write-row-spec =
+pub write_row_spec : {M : Type 1} → statement M
+write_row_spec =
     tie.close
     (tie.spec
     (λ c κs. search rules)  -- role-numbers-requires
@@ -59,13 +59,13 @@ write-row-spec =
     simp (
       towards_suc,
       widened args.item.name (omega arith),
-      widened roled.role-numbers.result.0 (omega arith),
+      widened roled.role_numbers-numbers.result.0 (omega arith),
       widened args.start (omega arith),
       widened args.width (omega arith),
       widened args.value (omega arith),
       to_z-of_z {w = w32} {z = programme.shown.result} (search rules),
-      to_z-of_z {w = w32} {z = block.shown2.result} (search rules),
-      to_z-of_z {w = w32} {z = index.shown3.result} (search rules),
-      to_z-of_z {w = w32} {z = c.shown4.result} (search rules),
+      to_z-of_z {w = w32} {z = block.shown-2.result} (search rules),
+      to_z-of_z {w = w32} {z = index.shown-3.result} (search rules),
+      to_z-of_z {w = w32} {z = c.shown-4.result} (search rules),
     )
-    (rw (programme.shown.ensures, block.shown2.ensures, index.shown3.ensures, c.shown4.ensures, roled.role-numbers.ensures))))  -- returns
+    (rw (programme.shown.ensures, block.shown-2.ensures, index.shown-3.ensures, c.shown-4.ensures, roled.role_numbers-numbers.ensures))))  -- returns

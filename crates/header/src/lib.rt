@@ -17,7 +17,7 @@ use syntax::refusals::{BAD_BSID, CUT_SHORT, NO_FRAME_SIZE, NOT_SYNC, TOO_SHORT};
 use syntax::{Cursor, Role};
 
 // What a frame's header says of its blocks.
-#[derive(Drop)]
+#[derive(Clone, Copy)]
 pub struct Header {
     pub bytes: u16,
     pub fscod: u8,
@@ -28,7 +28,7 @@ pub struct Header {
 
 // ---- syncinfo
 
-#[derive(Drop)]
+#[derive(Clone, Copy)]
 pub struct SyncRead {
     pub fscod: u8,
     pub bytes: u16,
@@ -170,7 +170,7 @@ fn additional_info(s: &[u8], rows: &mut [i32], c: Cursor) -> Cursor
     }
 }
 
-#[derive(Drop)]
+#[derive(Clone, Copy)]
 pub struct HeaderRead {
     pub header: Header,
     pub cursor: Cursor,

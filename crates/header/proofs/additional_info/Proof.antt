@@ -6,26 +6,26 @@ use Rattle.header.specs.Header.{additional_info}
 use Rattle.header.proofs.additional_info.Statement.{statement}
 use Rattle.header.proofs.additional_info.Tie as tie
 
-present : tie.Need-returns
+present : tie.Need-returns-then-addbsie
 unfolding additional_info
 present c =
     let t3 = c.before in
     let t2 = t3.before.before.before.before.before in
     let t1 = t2.before.before.before.before.before in
-    then _ (rw t1.before.plain.ensures at t1.flag.ensures)
-    (rw t2.before.before.before.if1.true
-    (then _ (rw t2.before.plain2.ensures at t2.take.ensures.0)
+    then _ (rw t1.before.plain.ensures at t1.flag-addbsie.ensures)
+    (rw t2.before.before.before.if-addbsie.true
+    (then _ (rw t2.before.plain-then-addbsie.ensures at t2.take-addbsil.ensures.0)
     (rw t3.before.before.roled.ensures at (t3.pass.ensures t1.before.before.before.before.args.s.now))))
 
-absent : tie.Need-returns-2
+absent : tie.Need-returns-else-addbsie
 unfolding additional_info
 absent c =
     let t1 = c.before.before.before in
-    then _ (rw t1.before.plain.ensures at t1.flag.ensures)
-    (rw c.before.if1.false finished)
+    then _ (rw t1.before.plain.ensures at t1.flag-addbsie.ensures)
+    (rw c.before.if-addbsie.false finished)
 
-pub additional-info-spec : {M : Type 1} → statement M
-additional-info-spec =
+pub additional_info_spec : {M : Type 1} → statement M
+additional_info_spec =
     tie.close
     (tie.spec
     (λ c κs. tt)  -- plain-requires

@@ -21,23 +21,23 @@ reads c =
     let t3 = t4.before.before.before.before in
     let t2 = t3.before.before.before.before in
     let t1 = t2.before.before.before.before in
-    let one = t1.flag.result.set in
-    let two = t7.flag2.result.set in
-    then _ (rw t1.before.plain.ensures at t1.flag.ensures)
-    (then _ (under one _ _ (rw t2.before.plain2.ensures at t2.note-if.ensures)
-    (under one _ _ (rw t3.before.plain3.ensures at t3.note-if2.ensures)
-    (under one _ _ (rw t4.before.plain4.ensures at t4.note-if3.ensures)
-    (under one _ _ (rw t5.before.plain5.ensures at t5.note-if4.ensures)
-    (rw t6.before.plain6.ensures at t6.note-if5.ensures)))))
-    (then _ (rw t7.before.plain7.ensures at t7.flag2.ensures)
-    (under two _ _ (rw t8.before.plain8.ensures at t8.note-if6.ensures)
-    (under two _ _ (rw t9.before.plain9.ensures at t9.note-if7.ensures)
-    (under two _ _ (rw t10.before.plain10.ensures at t10.note-if8.ensures)
-    (under two _ _ (rw t11.before.plain11.ensures at t11.note-if9.ensures)
-    (rw t12.before.plain12.ensures at t12.note-if10.ensures)))))))
+    let one = t1.flag-one.result.set in
+    let two = t7.flag-two.result.set in
+    then _ (rw t1.before.plain.ensures at t1.flag-one.ensures)
+    (then _ (under one _ _ (rw t2.before.plain-2.ensures at t2.note_if-dmixmod.ensures)
+    (under one _ _ (rw t3.before.plain-3.ensures at t3.note_if-ltrtcmixlev.ensures)
+    (under one _ _ (rw t4.before.plain-4.ensures at t4.note_if-ltrtsurmixlev.ensures)
+    (under one _ _ (rw t5.before.plain-5.ensures at t5.note_if-lorocmixlev.ensures)
+    (rw t6.before.plain-6.ensures at t6.note_if-lorosurmixlev.ensures)))))
+    (then _ (rw t7.before.plain-7.ensures at t7.flag-two.ensures)
+    (under two _ _ (rw t8.before.plain-8.ensures at t8.note_if-dsurexmod.ensures)
+    (under two _ _ (rw t9.before.plain-9.ensures at t9.note_if-dheadphonmod.ensures)
+    (under two _ _ (rw t10.before.plain-10.ensures at t10.note_if-adconvtyp.ensures)
+    (under two _ _ (rw t11.before.plain-11.ensures at t11.note_if-xbsi2.ensures)
+    (rw t12.before.plain-12.ensures at t12.note_if.ensures)))))))
 
-pub alternate-info-spec : {M : Type 1} → statement M
-alternate-info-spec =
+pub alternate_info_spec : {M : Type 1} → statement M
+alternate_info_spec =
     tie.close
     (tie.spec
     (λ c κs. tt)  -- plain-requires

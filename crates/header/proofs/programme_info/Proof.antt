@@ -19,17 +19,17 @@ reads c =
     let t3 = t4.before.before.before.before in
     let t2 = t3.before.before.before.before in
     let t1 = t2.before.before.before.before in
-    then _ (rw t1.before.roled.ensures at t1.note.ensures)
-    (then _ (rw t2.before.roled2.ensures at t2.flag.ensures)
-    (then _ (rw t3.before.roled3.ensures at t3.note-if.ensures)
-    (then _ (rw t4.before.plain.ensures at t4.flag2.ensures)
-    (then _ (rw t5.before.plain2.ensures at t5.note-if2.ensures)
-    (then _ (rw t6.before.plain3.ensures at t6.flag3.ensures)
-    (under t6.flag3.result.set _ _ (rw t7.before.plain4.ensures at t7.note-if3.ensures)
-    (rw t8.before.plain5.ensures at t8.note-if4.ensures)))))))
+    then _ (rw t1.before.roled.ensures at t1.note-dialnorm.ensures)
+    (then _ (rw t2.before.roled-2.ensures at t2.flag-compre.ensures)
+    (then _ (rw t3.before.roled-3.ensures at t3.note_if-compr.ensures)
+    (then _ (rw t4.before.plain.ensures at t4.flag-langcode.ensures)
+    (then _ (rw t5.before.plain-2.ensures at t5.note_if-langcod.ensures)
+    (then _ (rw t6.before.plain-3.ensures at t6.flag-audprodie.ensures)
+    (under t6.flag-audprodie.result.set _ _ (rw t7.before.plain-4.ensures at t7.note_if-mixlevel.ensures)
+    (rw t8.before.plain-5.ensures at t8.note_if.ensures)))))))
 
-pub programme-info-spec : {M : Type 1} → statement M
-programme-info-spec =
+pub programme_info_spec : {M : Type 1} → statement M
+programme_info_spec =
     tie.close
     (tie.spec
     (λ c. search rules)  -- mul-n

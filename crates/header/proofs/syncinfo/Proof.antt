@@ -12,20 +12,20 @@ use Rattle.header.proofs.Rate.{rated}
 use Rattle.header.proofs.syncinfo.Statement.{statement}
 use Rattle.header.proofs.syncinfo.Tie as tie
 
-early : tie.Need-returns
+early : tie.Need-returns-then-found-ne0
 unfolding syncinfo
 early c =
     let t3 = c.before.before in
     let t2 = t3.before.before.before in
     let t1 = t2.before.before.before in (
-      then _ (t1.frame.ensures _)
-          (then _ (rw t2.before.roled.ensures at t2.take.ensures.0)
-          (then _ (judged t3.refuse-if.ensures refl)
-          (stopped c.if1.true))),
-      λ on. absurd (c.if1.true on),
+      then _ (t1.frame-whole.ensures _)
+          (then _ (rw t2.before.roled.ensures at t2.take-syncword.ensures.0)
+          (then _ (judged t3.refuse_if-found.ensures refl)
+          (stopped c.if-found-ne0.true))),
+      λ on. absurd (c.if-found-ne0.true on),
     )
 
-reads : tie.Need-returns-2
+reads : tie.Need-returns
 unfolding syncinfo
 reads c =
     let t9 = c.before in
@@ -37,21 +37,21 @@ reads c =
     let t3 = t4.before.before.before.before.before in
     let t2 = t3.before.before.before in
     let t1 = t2.before.before.before in (
-      then _ (t1.frame.ensures _)
-          (then _ (rw t2.before.roled.ensures at t2.take.ensures.0)
-          (then _ (judged t3.refuse-if.ensures refl)
-          (then _ (rw t4.before.roled2.ensures at t4.note.ensures)
-          (then _ (rw t5.before.roled3.ensures at t5.take2.ensures.0)
-          (then _ (rw t6.before.roled4.ensures at t6.take3.ensures.0)
-          (rw (← t7.frame-bytes.ensures.0)
-          (then _ (judged t8.refuse-if2.ensures refl)
-          (then _ (t9.frame2.ensures _)
+      then _ (t1.frame-whole.ensures _)
+          (then _ (rw t2.before.roled.ensures at t2.take-syncword.ensures.0)
+          (then _ (judged t3.refuse_if-found.ensures refl)
+          (then _ (rw t4.before.roled-2.ensures at t4.note-crc1.ensures)
+          (then _ (rw t5.before.roled-3.ensures at t5.take-fscod.ensures.0)
+          (then _ (rw t6.before.roled-4.ensures at t6.take-frmsizecod.ensures.0)
+          (rw (← t7.frame_bytes-bytes.ensures.0)
+          (then _ (judged t8.refuse_if-sized.ensures refl)
+          (then _ (t9.frame-cursor.ensures _)
           finished)))))))),
-      λ on. rated _ _ (λ none. eqb-false _ _ (t8.refuse-if2.ensures.passed (going (t9.frame2.ensures []) on)) (t7.frame-bytes.ensures.0 ∙ none)),
+      λ on. rated _ _ (λ none. eqb-false _ _ (t8.refuse_if-sized.ensures.passed (going (t9.frame-cursor.ensures []) on)) (t7.frame_bytes-bytes.ensures.0 ∙ none)),
     )
 
-pub syncinfo-spec : {M : Type 1} → statement M
-syncinfo-spec =
+pub syncinfo_spec : {M : Type 1} → statement M
+syncinfo_spec =
     tie.close
     (tie.spec
     (λ c κs. search rules)  -- frame-requires
@@ -71,6 +71,6 @@ syncinfo-spec =
     (λ c κs. tt)  -- frame-bytes-requires
     (λ c κs. lit< tt)  -- refuse-if-requires-2
     (λ c κs. search rules)  -- frame-requires-2
-    (λ c. omega (arith, c.before.before.before.before.before.before.before.before.before.before.before.take2.ensures.1))  -- cast-fscod
+    (λ c. omega (arith, c.before.before.before.before.before.before.before.before.before.before.before.take-fscod.ensures.1))  -- cast-fscod
     (λ c. (reads c).0.long)  -- same-length-2
     reads)

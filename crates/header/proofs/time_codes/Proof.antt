@@ -12,13 +12,13 @@ reads c =
     let t3 = t4.before.before.before.before in
     let t2 = t3.before.before.before.before in
     let t1 = t2.before.before.before.before in
-    then _ (rw t1.before.plain.ensures at t1.flag.ensures)
-    (then _ (rw t2.before.plain2.ensures at t2.note-if.ensures)
-    (then _ (rw t3.before.plain3.ensures at t3.flag2.ensures)
-    (rw t4.before.plain4.ensures at t4.note-if2.ensures)))
+    then _ (rw t1.before.plain.ensures at t1.flag-one.ensures)
+    (then _ (rw t2.before.plain-2.ensures at t2.note_if-timecod1.ensures)
+    (then _ (rw t3.before.plain-3.ensures at t3.flag-two.ensures)
+    (rw t4.before.plain-4.ensures at t4.note_if.ensures)))
 
-pub time-codes-spec : {M : Type 1} → statement M
-time-codes-spec =
+pub time_codes_spec : {M : Type 1} → statement M
+time_codes_spec =
     tie.close
     (tie.spec
     (λ c κs. tt)  -- plain-requires

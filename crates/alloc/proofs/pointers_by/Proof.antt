@@ -16,38 +16,38 @@ use Rattle.alloc.proofs.pointers_by.Statement.{statement}
 use Rattle.alloc.proofs.pointers_by.Tie as tie
 
 -- the pointer at a bin's address
-module _ (c : tie.After-addresses-of) where
+module _ (c : tie.After-addresses_of) where
   abbrev begin : tie.Start
   begin = c.before.before.before.before
 
   module _ (bin : ℕ) (from : begin.args.p.start ≤ bin) (to : bin < begin.args.p.end) where
-    pointer_is : bap_at begin.args.baps.now c.addresses-of.new.0 bin
+    pointer_is : bap_at begin.args.baps.now c.addresses_of.new.out bin
         ≡ bap_of begin.args.baps.now (psd_at begin.args.exponents.now bin) (thresholds_of begin.args.exponents.now begin.args.p (band_of bin))
     unfolding bap_of
-    pointer_is = ap (λ (address : ℕ). get_or begin.args.baps.now address 0) (fills_in c.addresses-of.ensures bin from to)
+    pointer_is = ap (λ (address : ℕ). get_or begin.args.baps.now address 0) (fills_in c.addresses_of.ensures bin from to)
 
-    address_small : get_or c.addresses-of.new.0 bin 0 < 64
-    address_small = rw (fills_in c.addresses-of.ensures bin from to) (address_below _ _)
+    address_small : get_or c.addresses_of.new.out bin 0 < 64
+    address_small = rw (fills_in c.addresses_of.ensures bin from to) (address_below _ _)
 
-nothing : tie.Need-returns
+nothing : tie.Need-returns-then-end-start
 nothing c =
     let s = c.before in
     rw (allocation_none s.args.baps.now s.args.exponents.now s.args.p (omega arith))
 
-pub pointers-by-spec : {M : Type 1} → statement M
-pointers-by-spec =
+pub pointers_by_spec : {M : Type 1} → statement M
+pointers_by_spec =
     tie.close
     (tie.spec
     nothing
     (λ c κs. search rules)
-    (λ c κs. let s = c.before.before.before in (rw c.before.zeros.ensures, s.requires.1, s.requires.2))
+    (λ c κs. let s = c.before.before.before in (rw c.before.zeros-addresses.ensures, s.requires.1, s.requires.2))
     (λ c κs.
     let a = c.before.before in
     let s = begin a in
-    (s.pre.0, omega (arith, a.before.before.before.if1.false), omega (arith, s.pre.1.end), address_small a))
+    (s.requires.0, omega (arith, a.before.before.before.if-end-start.false), omega (arith, s.requires.1.end), address_small a))
     (λ c.
     let a = c.before.before.before in
     let s = begin a in
-    let pointer = bap_at s.args.baps.now a.addresses-of.new.0 in
-    fills_sets 0 pointer s.args.p.start s.args.p.end (omega (arith, s.pre.0, s.pre.1.end)) c.pointers.ensures
+    let pointer = bap_at s.args.baps.now a.addresses_of.new.out in
+    fills_sets 0 pointer s.args.p.start s.args.p.end (omega (arith, s.requires.0, s.requires.1.end)) c.pointers.ensures
     ∙ ap (sets s.args.out.now s.args.p.start) (pointers_are s.args.baps.now s.args.exponents.now s.args.p pointer (pointer_is a))))

@@ -18,16 +18,16 @@ module _ (s : tie.Start) where
   distance_is : to_z w32 (of_z w32 s.args.distance) ≡ s.args.distance
   distance_is = to_z-of_z w32 s.args.distance s.ranges.distance
 
-pub added-spec : {M : Type 1} → statement M
-added-spec =
+pub added_spec : {M : Type 1} → statement M
+added_spec =
     tie.close
     (tie.spec
     (λ c. rw (distance_is c) (c.requires.1, record { fits = omega (arith, c.requires.2) }))
-    (λ c. rw (distance_is c) (omega (arith, c.requires.2)))
+    (λ c. rw (distance_is c.before) (omega (arith, c.requires.2)))
     (λ c κs. search rules)
     (λ c.
-    let s = c.before.before in
-    let back = back_32 _ c.as-level.type-inv in
-    let is : c.as-level.result ≡ pos (get_or log_add (nat_abs s.args.distance / 2) 0) =
-    c.as-level.ensures.0 ∙ ap (λ (l : List ℕ). pos (get_or l (nat_abs (to_z w32 (of_z w32 s.args.distance)) / 2) 0)) s.requires.0 ∙ rw (distance_is s) in
-    (back ∙ is, below_is back c.as-level.ensures.1)))
+    let s = c.before.before.before in
+    let back = back_32 _ c.as_level.type_inv in
+    let is : c.as_level.result ≡ pos (get_or log_add (nat_abs s.args.distance / 2) 0) =
+    c.as_level.ensures.0 ∙ ap (λ (l : List ℕ). pos (get_or l (nat_abs (to_z w32 (of_z w32 s.args.distance)) / 2) 0)) s.requires.0 ∙ rw (distance_is s) in
+    (back ∙ is, below_is back c.as_level.ensures.1)))

@@ -5,8 +5,8 @@ use Rattle.signed.proofs.Bounds.{cast_32, below_is}
 use Rattle.alloc.proofs.bands.as_level.Statement.{statement}
 use Rattle.alloc.proofs.bands.as_level.Tie as tie
 
-pub as-level-spec : {M : Type 1} → statement M
-as-level-spec =
+pub as_level_spec : {M : Type 1} → statement M
+as_level_spec =
     tie.close
     (tie.spec
     (λ c. search rules)

@@ -11,23 +11,23 @@ use Rattle.alloc.proofs.bands.band_level.Statement.{statement}
 use Rattle.alloc.proofs.bands.band_level.Tie as tie
 
 -- the band's bins
-module _ (c : tie.After-least) where
+module _ (c : tie.After-least-last) where
   abbrev start : tie.Start
-  start = c.before.before.before.before.before.before
+  start = c.before.before.before.before.before.before.before
 
-  first_is : c.before.before.before.most.result ≡ max start.args.start (start_of start.args.band)
+  first_is : c.before.before.before.most-first.result ≡ max start.args.start (start_of start.args.band)
   first_is =
-      let from = c.before.before.before.before.wide.ensures.0 ∙ start_at start.args.ends.now start.args.band start.pre.1 start.pre.3 in
-      omega (arith, c.before.before.before.most.ensures, from)
+      let from = c.before.before.before.before.wide.ensures.0 ∙ start_at start.args.ends.now start.args.band start.requires.1 start.requires.3 in
+      omega (arith, c.before.before.before.most-first.ensures, from)
 
-  last_is : c.least.result ≡ min start.args.end (end_of start.args.band)
+  last_is : c.least-last.result ≡ min start.args.end (end_of start.args.band)
   last_is =
-      let to = c.before.wide2.ensures.0 ∙ end_at start.args.ends.now start.args.band start.pre.1 in
-      omega (arith, c.least.ensures, to)
+      let to = c.before.wide-2.ensures.0 ∙ end_at start.args.ends.now start.args.band start.requires.1 in
+      omega (arith, c.least-last.ensures, to)
 
-pub band-level-spec : {M : Type 1} → statement M
+pub band_level_spec : {M : Type 1} → statement M
 unfolding band_psd
-band-level-spec =
+band_level_spec =
     tie.close
     (tie.spec
     (λ c. search rules)
@@ -43,7 +43,7 @@ band-level-spec =
     let last = last_is c in
     let wide = rising s.args.band (omega arith) in
     let after = start_mono 1 s.args.band (omega arith) (omega arith) in
-    (s.pre.0, s.pre.2, omega (arith, after, (narrow 1 (lit≤ tt)).0), omega arith, omega arith))
+    (s.requires.0, s.requires.2, omega (arith, after, (narrow 1 (lit≤ tt)).0), omega arith, omega arith))
     (λ c.
     let level = psd_at (start c.before).args.exponents.now in
-    back_32 _ c.sum-levels.type-inv ∙ c.sum-levels.ensures ∙ ap₂ (λ (first last : ℕ). band_sum level first (last - 1 - first)) (first_is c.before) (last_is c.before)))
+    back_32 _ c.sum_levels.type_inv ∙ c.sum_levels.ensures ∙ ap₂ (λ (first last : ℕ). band_sum level first (last - 1 - first)) (first_is c.before) (last_is c.before)))

@@ -17,7 +17,7 @@ module _ (s : tie.Start) where
   level = psd_at s.args.exponents.now
 
   ordered : s.args.first ≤ s.args.last - 1
-  ordered = in_order s.args.start (s.args.end - 1) s.args.first (s.args.last - 1) s.pre.3 s.pre.4 (omega arith)
+  ordered = in_order s.args.start (s.args.end - 1) s.args.first (s.args.last - 1) s.requires.3 s.requires.4 (omega arith)
 
   -- a narrow band of the range
   one_bin : (split band : ℕ) → split ≡ min s.args.last (max s.args.first 28) → s.args.first ≤ band → band < split → level band ≡ band_psd level s.args.start s.args.end band
@@ -25,20 +25,20 @@ module _ (s : tie.Start) where
       let n = narrow band (omega arith) in
       let f = narrow s.args.first (omega arith) in
       let order = start_mono band (s.args.last - 1) (omega arith) (omega arith) in
-      let high = s.pre.3.high in
-      let low = s.pre.4.low in
+      let high = s.requires.3.high in
+      let low = s.requires.4.low in
       narrow_level level s.args.start s.args.end band (omega arith) (omega arith) (omega arith)
 
-split_is : (c : tie.After-least) → c.least.result ≡ min c.before.before.args.last (max c.before.before.args.first 28)
-split_is c = omega (arith, c.least.ensures, c.before.most.ensures)
+split_is : (c : tie.After-least-split) → c.least-split.result ≡ min c.before.before.args.last (max c.before.before.args.first 28)
+split_is c = omega (arith, c.least-split.ensures, c.before.most.ensures)
 
-narrowed : (c : tie.After-narrow-levels) → Fills (pos 0) c.before.before.before.before.args.first c.before.before.least.result (band_psd (level c.before.before.before.before) c.before.before.before.before.args.start c.before.before.before.before.args.end) c.before.before.before.before.args.out.now c.narrow-levels.new.0
+narrowed : (c : tie.After-narrow_levels) → Fills (pos 0) c.before.before.before.before.args.first c.before.before.least-split.result (band_psd (level c.before.before.before.before) c.before.before.before.before.args.start c.before.before.before.before.args.end) c.before.before.before.before.args.out.now c.narrow_levels.new.out
 narrowed c =
     let s = c.before.before.before.before in
-    fills_same _ _ _ _ _ (λ band. one_bin s c.before.before.least.result band (split_is c.before.before)) c.narrow-levels.ensures
+    fills_same _ _ _ _ _ (λ band. one_bin s c.before.before.least-split.result band (split_is c.before.before)) c.narrow_levels.ensures
 
-pub band-levels-spec : {M : Type 1} → statement M
-band-levels-spec =
+pub band_levels_spec : {M : Type 1} → statement M
+band_levels_spec =
     tie.close
     (tie.spec
     (λ c κs. search rules)
@@ -47,17 +47,17 @@ band-levels-spec =
     (λ c.
     let s = c.before.before.before.before.before in
     let e = split_is c.before.before.before in
-    let end : c.before.before.before.least.result ≡ s.args.last = omega arith in
+    let end : c.before.before.before.least-split.result ≡ s.args.last = omega arith in
     rw end at (narrowed c.before))
     (λ c κs.
     let s = c.before.before.before.before.before.before in
     let e = split_is c.before.before.before.before in
     let o = ordered s in
     let long = (narrowed c.before.before).long in
-    let high = end_mono s.args.first c.before.before.before.before.least.result (omega arith) (omega arith) in
+    let high = end_mono s.args.first c.before.before.before.before.least-split.result (omega arith) (omega arith) in
     (long ∙ s.requires.0, s.requires.1, s.requires.2, omega arith, omega arith, omega arith, omega arith, omega arith, omega arith, omega arith))
     (λ c.
     let s = c.before.before.before.before.before.before.before in
     let e = split_is c.before.before.before.before.before in
     let o = ordered s in
-    fills_join _ _ _ _ _ (omega arith) (omega arith) (narrowed c.before.before.before) c.wide-levels.ensures))
+    fills_join _ _ _ _ _ (omega arith) (omega arith) (narrowed c.before.before.before) c.wide_levels.ensures))

@@ -9,11 +9,11 @@ use mir.ValLaws.{to_z-of_z}
 use Rattle.alloc.proofs.bands.is_near.Statement.{statement}
 use Rattle.alloc.proofs.bands.is_near.Tie as tie
 
-pub is-near-spec : {M : Type 1} → statement M
-is-near-spec =
+pub is_near_spec : {M : Type 1} → statement M
+is_near_spec =
     tie.close
     (tie.spec
-    (λ c. let z = to_z-of_z w32 c.before.args.distance c.before.ranges.distance in rw (rw z at c.if1.true, z))
+    (λ c. let z = to_z-of_z w32 c.before.args.distance c.before.ranges.distance in rw (rw z at c.if-distance-ge0.true, z))
     (λ c.
     let z = to_z-of_z w32 c.before.args.distance c.before.ranges.distance in
-    c.if1.false ∙ ap (λ (low : Bool). (low && lt_z c.before.args.distance (pos 512))) (sym (rw z at c.if1.false))))
+    c.if-distance-ge0.false ∙ ap (λ (low : Bool). (low && lt_z c.before.args.distance (pos 512))) (sym (rw z at c.if-distance-ge0.false))))

@@ -12,7 +12,7 @@ use mir.Syntax.{w32}
 use mir.Val.{to_z, of_z}
 use mir.ValLaws.{to_z-of_z}
 use Rattle.signed.specs.Bound.{Below}
-use Rattle.signed.proofs.Bounds.{bounds, levels, back_32, below_add, below_is, below_read}
+use Rattle.signed.proofs.Bounds.{bounds, levels, below_add, below_is}
 use Rattle.tables.specs.Tables.{log_add}
 use Rattle.alloc.proofs.Sum.{near, far, larger_first, larger_second, near_test, far_test, below_test, near_below_test, far_below_test, opposite}
 use Rattle.alloc.proofs.bands.logadd.Statement.{statement}
@@ -29,10 +29,10 @@ module _ (s : tie.Start) where
   apart = a -ℤ b
 
   a_is : to_z w32 (of_z w32 s.args.sum) ≡ a
-  a_is = to_z-of_z w32 s.args.sum s.fits.sum
+  a_is = to_z-of_z w32 s.args.sum s.ranges.sum
 
   drop_is : to_z w32 (of_z w32 s.args.drop) ≡ s.args.drop
-  drop_is = to_z-of_z w32 s.args.drop s.fits.drop
+  drop_is = to_z-of_z w32 s.args.drop s.ranges.drop
 
   apart_is : a +ℤ s.args.drop ≡ apart
   apart_is = ap (λ (z : ℤ). a +ℤ z) (sym (neg_ℤ-neg_ℤ s.args.drop))
@@ -41,7 +41,7 @@ module _ (s : tie.Start) where
   distance_is = search levels depth 12 ∙ apart_is
 
   apart_small : Below 21 apart
-  apart_small = below_is (sym apart_is) (below_add s.pre.1 s.pre.2 tt)
+  apart_small = below_is (sym apart_is) (below_add s.requires.1 s.requires.2 tt)
 
   opposite_is : T (not (non_neg apart)) → to_z w32 (of_z w32 (pos 0 -ℤ to_z w32 (of_z w32 (to_z w32 (of_z w32 s.args.sum) +ℤ to_z w32 (of_z w32 s.args.drop))))) ≡ pos (nat_abs apart)
   opposite_is t = rw distance_is (let h = apart_small in search levels depth 12 ∙ opposite apart t)
@@ -51,29 +51,29 @@ abbrev entry : ℤ → ℤ
 entry z = pos (get_or log_add (nat_abs z / 2) 0)
 
 -- what the tests tell
-near_first : (c : tie.Then1) → T (non_neg (apart c.before.before)) × (nat_abs (apart c.before.before) < 512)
-near_first c = near_test (apart c.before.before) (rw (distance_is c.before.before) at (sym c.before.is-near.ensures ∙ c.if1.true))
+near_first : (c : tie.Then-is_near) → T (non_neg (apart c.before.before)) × (nat_abs (apart c.before.before) < 512)
+near_first c = near_test (apart c.before.before) (rw (distance_is c.before.before) at (sym c.before.is_near.ensures ∙ c.if-is_near.true))
 
-far_first : (c : tie.Then2) → T (non_neg (apart c.before.before.before)) × (512 ≤ nat_abs (apart c.before.before.before))
+far_first : (c : tie.Then-distance-ge0) → T (non_neg (apart c.before.before.before)) × (512 ≤ nat_abs (apart c.before.before.before))
 far_first c =
     let s = c.before.before.before in
-    far_test (apart s) (rw (distance_is s) at (sym c.before.before.is-near.ensures ∙ c.before.if1.false)) (rw (distance_is s) at c.if2.true)
+    far_test (apart s) (rw (distance_is s) at (sym c.before.before.is_near.ensures ∙ c.before.if-is_near.false)) (rw (distance_is s) at c.if-distance-ge0.true)
 
-less : (c : tie.Else2) → T (not (non_neg (apart c.before.before.before)))
-less c = below_test (apart c.before.before.before) (rw (distance_is c.before.before.before) at c.if2.false)
+less : (c : tie.Else-distance-ge0) → T (not (non_neg (apart c.before.before.before)))
+less c = below_test (apart c.before.before.before) (rw (distance_is c.before.before.before) at c.if-distance-ge0.false)
 
-near_second : (c : tie.Then3) → nat_abs (apart c.before.before.before.before) < 512
+near_second : (c : tie.Then-distance-gtminus512) → nat_abs (apart c.before.before.before.before) < 512
 near_second c =
     let s = c.before.before.before.before in
-    near_below_test (apart s) (less c.before) (rw (distance_is s) at c.if3.true)
+    near_below_test (apart s) (less c.before) (rw (distance_is s) at c.if-distance-gtminus512.true)
 
-far_second : (c : tie.Else3) → 512 ≤ nat_abs (apart c.before.before.before.before)
+far_second : (c : tie.Else-distance-gtminus512) → 512 ≤ nat_abs (apart c.before.before.before.before)
 far_second c =
     let s = c.before.before.before.before in
-    far_below_test (apart s) (less c.before) (rw (distance_is s) at c.if3.false)
+    far_below_test (apart s) (less c.before) (rw (distance_is s) at c.if-distance-gtminus512.false)
 
-pub logadd-spec : {M : Type 1} → statement M
-logadd-spec =
+pub logadd_spec : {M : Type 1} → statement M
+logadd_spec =
     tie.close
     (tie.spec
     (λ c. search bounds depth 12)
@@ -92,13 +92,13 @@ logadd-spec =
     a_is s ∙ far (a s) (b s) (a s) (larger_first (a s) (b s) t.0) t.1)
     (λ c. search bounds depth 12)
     (λ c κs. let s = c.before.before.before.before in (s.requires.0, rw (opposite_is s (less c.before)) tt, rw (opposite_is s (less c.before)) (near_second c)))
-    (λ c. let more = c.added2.ensures.1 in search bounds depth 12)
+    (λ c. let more = c.added-then-distance-gtminus512.ensures.1 in search bounds depth 12)
     (λ c.
     let s = c.before.before.before.before.before in
     let t = less c.before.before in
-    let more = c.added2.ensures.1 in
-    let plain : to_z w32 (of_z w32 (to_z w32 (of_z w32 c.added2.result) -ℤ to_z w32 (of_z w32 s.args.drop))) ≡ c.added2.result -ℤ s.args.drop = search levels depth 12 in
-    plain ∙ ap (λ (z : ℤ). z -ℤ s.args.drop) (c.added2.ensures.0 ∙ ap entry (opposite_is s t))
+    let more = c.added-then-distance-gtminus512.ensures.1 in
+    let plain : to_z w32 (of_z w32 (to_z w32 (of_z w32 c.added-then-distance-gtminus512.result) -ℤ to_z w32 (of_z w32 s.args.drop))) ≡ c.added-then-distance-gtminus512.result -ℤ s.args.drop = search levels depth 12 in
+    plain ∙ ap (λ (z : ℤ). z -ℤ s.args.drop) (c.added-then-distance-gtminus512.ensures.0 ∙ ap entry (opposite_is s t))
     ∙ +ℤ_comm (entry (apart s)) (b s)
     ∙ near (a s) (b s) (b s) (larger_second (a s) (b s) t) (near_second c.before))
     (λ c. search bounds depth 12)

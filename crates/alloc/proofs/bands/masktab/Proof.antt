@@ -13,35 +13,35 @@ use Rattle.alloc.proofs.bands.masktab.Tie as tie
 answer : (bin r : ℕ) → ranged bin ≡ r → bin < 253 → InBand bin r
 answer bin r e h = rw (← e) (ranged_in bin h)
 
-pub masktab-spec : {M : Type 1} → statement M
+pub masktab_spec : {M : Type 1} → statement M
 unfolding ranged
-masktab-spec =
+masktab_spec =
     tie.close
     (tie.spec
     (λ c.
     let bin = c.before.args.bin in
-    (answer bin bin (rw (lt-ltb bin 28 c.if1.true)), λ past. absurd (omega arith)))
+    (answer bin bin (rw (lt-ltb bin 28 c.if-bin-lt28.true)), λ past. absurd (omega arith)))
     (λ c. search rules)
     (λ c.
     let bin = c.before.before.args.bin in
-    (answer bin (28 + (bin - 28) / 3) (rw (le-ltb bin 28 (omega arith), lt-ltb bin 49 c.if2.true)), λ past. absurd (omega arith)))
+    (answer bin (28 + (bin - 28) / 3) (rw (le-ltb bin 28 (omega arith), lt-ltb bin 49 c.if-bin-lt49.true)), λ past. absurd (omega arith)))
     (λ c. search rules)
     (λ c.
     let bin = c.before.before.before.args.bin in (
-      answer bin (35 + (bin - 49) / 6) (rw (le-ltb bin 28 (omega arith), le-ltb bin 49 (omega arith), lt-ltb bin 85 c.if3.true)),
+      answer bin (35 + (bin - 49) / 6) (rw (le-ltb bin 28 (omega arith), le-ltb bin 49 (omega arith), lt-ltb bin 85 c.if-bin-lt85.true)),
       λ past. absurd (omega arith),
     ))
     (λ c. search rules)
     (λ c.
     let bin = c.before.before.before.before.args.bin in (
       answer bin (41 + (bin - 85) / 12)
-          (rw (le-ltb bin 28 (omega arith), le-ltb bin 49 (omega arith), le-ltb bin 85 (omega arith), lt-ltb bin 133 c.if4.true)),
+          (rw (le-ltb bin 28 (omega arith), le-ltb bin 49 (omega arith), le-ltb bin 85 (omega arith), lt-ltb bin 133 c.if-bin-lt133.true)),
       λ past. absurd (omega arith),
     ))
     (λ c. search rules)
     (λ c.
     let bin = c.before.before.before.before.args.bin in (
       answer bin (45 + (bin - 133) / 24)
-          (rw (le-ltb bin 28 (omega arith), le-ltb bin 49 (omega arith), le-ltb bin 85 (omega arith), le-ltb bin 133 c.if4.false)),
+          (rw (le-ltb bin 28 (omega arith), le-ltb bin 49 (omega arith), le-ltb bin 85 (omega arith), le-ltb bin 133 c.if-bin-lt133.false)),
       λ past. refl,
     )))

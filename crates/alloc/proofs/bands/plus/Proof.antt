@@ -13,18 +13,18 @@ use Rattle.alloc.proofs.bands.plus.Tie as tie
 
 -- the level of the bin, as it is read back
 bin_is : (c : tie.After-drop) → neg_ℤ (to_z w32 (of_z w32 c.drop.result)) ≡ relative_at c.before.before.args.exponents.now c.before.before.args.bin
-bin_is c = ap neg_ℤ (back_32 c.drop.result c.drop.type-inv) ∙ c.drop.ensures.0 ∙ ap relative (back_16 _ c.before.drop-arg.given)
+bin_is c = ap neg_ℤ (back_32 c.drop.result c.drop.type_inv) ∙ c.drop.ensures.0 ∙ ap relative (back_16 _ c.before.drop-arg-1.given)
 
-pub plus-spec : {M : Type 1} → statement M
-plus-spec =
+pub plus_spec : {M : Type 1} → statement M
+plus_spec =
     tie.close
     (tie.spec
     (λ c. search rules)
     (λ c. search rules)
-    (λ c κs. rw (back_16 (at c.before.args.exponents.now c.before.args.bin) c.drop-arg.given) (c.before.requires.1 c.before.args.bin))
+    (λ c κs. rw (back_16 (at c.before.args.exponents.now c.before.args.bin) c.drop-arg-1.given) (c.before.requires.1 c.before.args.bin))
     (λ c κs.
     let s = c.before.before in
     (s.requires.0, below_read s.requires.3, below_read (below_more c.drop.ensures.1 tt)))
     (λ c.
     let s = c.before.before.before in
-    back_32 _ c.logadd.type-inv ∙ c.logadd.ensures ∙ rw (to_z-of_z w32 s.args.sum s.ranges.sum, bin_is c.before)))
+    back_32 _ c.logadd.type_inv ∙ c.logadd.ensures ∙ rw (to_z-of_z w32 s.args.sum s.ranges.sum, bin_is c.before)))

@@ -22,19 +22,19 @@ module _ (s : tie.Start) where
   bin n = relative_at s.args.exponents.now (s.args.bin + n)
 
   bin_small : {k : ℕ} (n : ℕ) → T (leb 13 k) → Below k (bin n)
-  bin_small n t = below_more (relative_below s.args.exponents.now s.pre.1 (s.args.bin + n)) t
+  bin_small n t = below_more (relative_below s.args.exponents.now s.requires.1 (s.args.bin + n)) t
 
   abbrev first : ℤ
   first = logadd s.args.sum (relative_at s.args.exponents.now s.args.bin)
 
   first_small : Below 18 first
-  first_small = logadd_below {k = 17} s.pre.3 (below_more (relative_below s.args.exponents.now s.pre.1 s.args.bin) tt) tt
+  first_small = logadd_below {k = 17} s.requires.3 (below_more (relative_below s.args.exponents.now s.requires.1 s.args.bin) tt) tt
 
-two_is : (c : tie.After-plus-two) → to_z w32 (of_z w32 c.plus-two.result) ≡ logadd (first c.before) (bin c.before 1)
-two_is c = back_32 _ c.plus-two.type-inv ∙ c.plus-two.ensures ∙ rw (to_z-of_z w32 c.before.args.sum c.before.ranges.sum)
+two_is : (c : tie.After-plus_two-two) → to_z w32 (of_z w32 c.plus_two-two.result) ≡ logadd (first c.before) (bin c.before 1)
+two_is c = back_32 _ c.plus_two-two.type_inv ∙ c.plus_two-two.ensures ∙ rw (to_z-of_z w32 c.before.args.sum c.before.ranges.sum)
 
-pub plus-three-spec : {M : Type 1} → statement M
-plus-three-spec =
+pub plus_three_spec : {M : Type 1} → statement M
+plus_three_spec =
     tie.close
     (tie.spec
     (λ c κs. (c.requires.0, c.requires.1, omega arith, below_read (below_more c.requires.3 tt)))
@@ -42,4 +42,4 @@ plus-three-spec =
     (λ c κs.
     let s = c.before in
     (s.requires.0, s.requires.1, omega arith, below_is (two_is c) (below_more (logadd_below {k = 18} (first_small s) (bin_small s 1 tt) tt) tt)))
-    (λ c. back_32 _ c.plus.type-inv ∙ c.plus.ensures ∙ rw (two_is c.before)))
+    (λ c. back_32 _ c.plus.type_inv ∙ c.plus.ensures ∙ rw (two_is c.before)))

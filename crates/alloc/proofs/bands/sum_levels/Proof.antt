@@ -2,7 +2,6 @@
 -- exponent 0. That it fits is a bound on the definition. Assumes nothing.
 use mathlib.Core.Path.{◌≡◌, ◌∙◌, sym, ap}
 use mathlib.Core.List.{List}
-use mathlib.Core.Logic.{⊎_elim}
 use Prim.Native.Nat.{ℕ, suc, ◌+◌, ◌-◌, ◌≤◌, ◌<◌}
 use native.Mathlib.Omega.{arith}
 use borrow.Author.Rules.{rules}
@@ -17,33 +16,34 @@ use Rattle.alloc.specs.Stages.{relative, relative_at}
 use Rattle.alloc.proofs.Bounded.{band_below, relative_below}
 use Rattle.alloc.proofs.Sum.{sum_more}
 use Rattle.alloc.proofs.bands.sum_levels.Statement.{statement}
+use Rattle.alloc.proofs.bands.sum_levels.Lts.{then-bin-last, else-bin-last}
 use Rattle.alloc.proofs.bands.sum_levels.Tie as tie
 
 -- what both loops keep
 abbrev Kept : List ℤ → (first last sum bin : ℕ) → Type 0
 Kept exponents first last sum bin = (first < bin) × (bin ≤ last) × (to_z w32 sum ≡ band_sum (relative_at exponents) first (bin - 1 - first))
 
-abbrev invariant-loop : tie.invariant-loop
-invariant-loop adds exponents first last threes sum₀ bin₀ sum bin = Kept exponents first last sum bin
+abbrev invariant-loop-bin : tie.invariant-loop-bin
+invariant-loop-bin adds exponents first last threes sum₀ bin₀ sum bin = Kept exponents first last sum bin
 
-abbrev decreases-loop : tie.decreases-loop
-decreases-loop adds exponents first last threes sum₀ bin₀ sum bin = last - bin
+abbrev decreases-loop-bin : tie.decreases-loop-bin
+decreases-loop-bin adds exponents first last threes sum₀ bin₀ sum bin = last - bin
 
-abbrev invariant-loop2 : tie.invariant-loop2
-invariant-loop2 adds exponents first last threes sum₀ bin₀ sum bin = Kept exponents first last sum bin
+abbrev invariant-loop-bin-2 : tie.invariant-loop-bin-2
+invariant-loop-bin-2 adds exponents first last threes sum₀ bin₀ sum bin = Kept exponents first last sum bin
 
-abbrev decreases-loop2 : tie.decreases-loop2
-decreases-loop2 adds exponents first last threes sum₀ bin₀ sum bin = last - bin
+abbrev decreases-loop-bin-2 : tie.decreases-loop-bin-2
+decreases-loop-bin-2 adds exponents first last threes sum₀ bin₀ sum bin = last - bin
 
 abbrev Begin : Type 0
-Begin = tie.Start invariant-loop decreases-loop invariant-loop2 decreases-loop2
+Begin = tie.Start invariant-loop-bin decreases-loop-bin invariant-loop-bin-2 decreases-loop-bin-2
 
 module _ (s : Begin) where
   abbrev sum_to : ℕ → ℤ
   sum_to bin = band_sum (relative_at s.args.exponents.now) s.args.first (bin - 1 - s.args.first)
 
   sum_small : (bin : ℕ) → bin ≤ s.args.last → Below 15 (sum_to bin)
-  sum_small bin h = band_below (relative_at s.args.exponents.now) (relative_below s.args.exponents.now s.pre.1) s.args.first (bin - 1 - s.args.first) (omega arith)
+  sum_small bin h = band_below (relative_at s.args.exponents.now) (relative_below s.args.exponents.now s.requires.1) s.args.first (bin - 1 - s.args.first) (omega arith)
 
   -- one bin more
   next : (bin : ℕ) → s.args.first < bin → sum_to (bin + 1) ≡ logadd (sum_to bin) (relative_at s.args.exponents.now bin)
@@ -70,35 +70,35 @@ module _ (s : Begin) where
   first_bin = let none : s.args.first + 1 - 1 - s.args.first ≡ 0 = omega arith in rw none
 
 -- the first bin, as it is read back
-first_is : (c : tie.After-relative invariant-loop decreases-loop invariant-loop2 decreases-loop2) → to_z w32 (of_z w32 c.relative.result) ≡ sum_to c.before.before (c.before.before.args.first + 1)
-first_is c = back_32 _ c.relative.type-inv ∙ c.relative.ensures ∙ ap relative (back_16 _ c.before.relative-arg.given) ∙ sym (first_bin c.before.before)
+first_is : (c : tie.After-relative-sum invariant-loop-bin decreases-loop-bin invariant-loop-bin-2 decreases-loop-bin-2) → to_z w32 (of_z w32 c.relative-sum.result) ≡ sum_to c.before.before (c.before.before.args.first + 1)
+first_is c = back_32 _ c.relative-sum.type_inv ∙ c.relative-sum.ensures ∙ ap relative (back_16 _ c.before.relative-arg-1.given) ∙ sym (first_bin c.before.before)
 
 -- with two bins more, or as it is
-holds : tie.Need-loop-init invariant-loop decreases-loop invariant-loop2 decreases-loop2
+holds : tie.Need-loop-bin-init invariant-loop-bin decreases-loop-bin invariant-loop-bin-2 decreases-loop-bin-2
 holds c =
     let s = c.before.before.before in
     let from = s.args.first + 1 in
-    ⊎_elim
-    (λ w. (
-      omega (arith, w.3),
-      omega (arith, w.0.taken, w.3),
-      ap (to_z w32) w.2 ∙ back_32 _ w.1.ok ∙ w.1.ensures ∙ rw (first_is c.before) (sym (next_two s from (omega arith))) ∙ ap (sum_to s) (sym w.3),
-    ))
-    (λ w. (omega (arith, w.2), omega (arith, w.2), ap (to_z w32) w.1 ∙ first_is c.before ∙ ap (sum_to s) (sym w.2)))
-    c.if1.branch
+    elim c.if-bin-last.branch [
+      | then-bin-last w ↦ (
+        omega arith,
+        omega arith,
+        w.sum-is ∙ back_32 _ w.plus_two-sum.type_inv ∙ w.plus_two-sum.ensures ∙ rw (first_is c.before) (sym (next_two s from (omega arith))) ∙ ap (sum_to s) (sym w.bin-is),
+      )
+      | else-bin-last w ↦ (omega arith, omega arith, w.sum-is ∙ first_is c.before ∙ ap (sum_to s) (sym w.bin-is))
+    ]
 
-pub sum-levels-spec : {M : Type 1} → statement M
-sum-levels-spec =
+pub sum_levels_spec : {M : Type 1} → statement M
+sum_levels_spec =
     tie.close
     (tie.spec
-    invariant-loop
-    decreases-loop
-    invariant-loop2
-    decreases-loop2
+    invariant-loop-bin
+    decreases-loop-bin
+    invariant-loop-bin-2
+    decreases-loop-bin-2
     (λ c. search rules)
     (λ c. search rules)
     (λ c. search rules)
-    (λ c κs. rw (back_16 (at c.before.args.exponents.now c.before.args.first) c.relative-arg.given) (c.before.requires.1 c.before.args.first))
+    (λ c κs. rw (back_16 (at c.before.args.exponents.now c.before.args.first) c.relative-arg-1.given) (c.before.requires.1 c.before.args.first))
     (λ c. search rules)
     (λ c. search rules)
     (λ c κs.
@@ -108,33 +108,33 @@ sum-levels-spec =
     holds
     (λ c κs.
     let s = c.before.before.before.before.before in
-    let at = c.before.loop in
+    let at = c.before.loop-bin in
     (s.requires.0, s.requires.1, omega arith, below_is at.invariant.2 (below_more (sum_small s at.bin (omega arith)) tt)))
     (λ c. search rules)
     (λ c. search rules)
     (λ c.
     let s = c.before.before.before.before.before.before.before in
-    let at = c.before.before.before.loop in
-    (search rules, search rules, back_32 _ c.before.plus-three.type-inv ∙ c.before.plus-three.ensures ∙ rw at.invariant.2 (sym (next_three s at.bin (omega arith)))))
-    (λ c. c.before.loop.invariant)
+    let at = c.before.before.before.loop-bin in
+    (search rules, search rules, back_32 _ c.before.plus_three-sum.type_inv ∙ c.before.plus_three-sum.ensures ∙ rw at.invariant.2 (sym (next_three s at.bin (omega arith)))))
+    (λ c. c.before.loop-bin.invariant)
     (λ c κs.
     let s = c.before.before.before.before.before.before.before in
-    let at = c.before.loop2 in
+    let at = c.before.loop-bin-2 in
     (s.requires.0, s.requires.1, omega arith, below_is at.invariant.2 (below_more (sum_small s at.bin (omega arith)) tt)))
     (λ c. search rules)
     (λ c. search rules)
     (λ c.
     let s = c.before.before.before.before.before.before.before.before.before in
-    let at = c.before.before.before.loop2 in
-    (search rules, search rules, back_32 _ c.before.plus.type-inv ∙ c.before.plus.ensures ∙ rw at.invariant.2 (sym (next s at.bin (omega arith)))))
+    let at = c.before.before.before.loop-bin-2 in
+    (search rules, search rules, back_32 _ c.before.plus-sum.type_inv ∙ c.before.plus-sum.ensures ∙ rw at.invariant.2 (sym (next s at.bin (omega arith)))))
     (λ c.
     let s = c.before.before.before.before.before.before.before in
-    let at = c.before.loop2 in
+    let at = c.before.loop-bin-2 in
     let small = below_is at.invariant.2 (sum_small s at.bin (omega arith)) in
     search bounds depth 12)
     (λ c.
     let s = c.before.before.before.before.before.before.before in
-    let at = c.before.loop2 in
+    let at = c.before.loop-bin-2 in
     let small = below_is at.invariant.2 (sum_small s at.bin (omega arith)) in
     let end : at.bin ≡ s.args.last = omega arith in
     to_z-of_z w32 _ (search bounds depth 12) ∙ ap (λ (z : ℤ). z +ℤ pos 3072) (at.invariant.2 ∙ ap (sum_to s) end)

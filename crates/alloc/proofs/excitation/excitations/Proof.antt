@@ -30,7 +30,7 @@ module _ (s : tie.Start) where
   gains_fit = omega arith
 
   bounded : (n : ℕ) → Bounded (after n)
-  bounded = after_bounded s.args.g gains_fit level s.pre.4 s.args.last s.args.first s.args.start s.pre.3
+  bounded = after_bounded s.args.g gains_fit level s.requires.4 s.args.last s.args.first s.args.start s.requires.3
 
 -- what follows a state of the definition is the definition's
 module _ (s : tie.Start) (split : ℕ) (l : Leak) (is : l ≡ after s (split - s.args.first)) (h : s.args.first ≤ split) where
@@ -48,21 +48,21 @@ together : (a b c : ℕ) → a ≤ b → b ≤ c → b - a + (c - b) ≡ c - a
 together a b c p q = omega arith
 
 -- where the bands are parted
-module _ (c : tie.After-least2) where
+module _ (c : tie.After-least-middle) where
   abbrev begin : tie.Start
   begin = c.before.before.before.before
 
   abbrev from : ℕ
-  from = c.before.before.least.result
+  from = c.before.before.least-low.result
 
   abbrev to : ℕ
-  to = c.least2.result
+  to = c.least-middle.result
 
   from_is : from ≡ min begin.args.last (max begin.args.first 7)
-  from_is = omega (arith, c.before.before.least.ensures, c.before.before.before.most.ensures)
+  from_is = omega (arith, c.before.before.least-low.ensures, c.before.before.before.most.ensures)
 
   to_is : to ≡ min begin.args.last (max begin.args.first 22)
-  to_is = omega (arith, c.least2.ensures, c.before.most2.ensures)
+  to_is = omega (arith, c.least-middle.ensures, c.before.most-2.ensures)
 
   ordered : (begin.args.first ≤ from) × (from ≤ to) × (to ≤ begin.args.last)
   ordered = omega (arith, from_is, to_is)
@@ -77,32 +77,32 @@ module _ (c : tie.After-least2) where
   late band p q = omega (arith, to_is)
 
 -- the bands below 22, and the state after them
-module _ (c : tie.After-middle-excitations) where
-  abbrev low : tie.After-low-excitations
+module _ (c : tie.After-middle_excitations-next) where
+  abbrev low : tie.After-low_excitations-leak
   low = c.before.before
 
-  abbrev parted : tie.After-least2
+  abbrev parted : tie.After-least-middle
   parted = low.before.before
 
   abbrev start : tie.Start
   start = begin parted
 
-  next_is : c.middle-excitations.result ≡ after start (to parted - start.args.first)
+  next_is : c.middle_excitations-next.result ≡ after start (to parted - start.args.first)
   next_is =
       let o = ordered parted in
-      (c.middle-excitations.ensures start.args.last).0
-      ∙ after_is start (from parted) low.low-excitations.result low.low-excitations.ensures.0 o.0 (to parted - from parted)
+      (c.middle_excitations-next.ensures start.args.last).0
+      ∙ after_is start (from parted) low.low_excitations-leak.result low.low_excitations-leak.ensures.0 o.0 (to parted - from parted)
       ∙ ap (after start) (together start.args.first (from parted) (to parted) o.0 o.1)
 
-  filled : Fills (pos 0) start.args.first (to parted) (excite start) start.args.out.now c.middle-excitations.new.0
+  filled : Fills (pos 0) start.args.first (to parted) (excite start) start.args.out.now c.middle_excitations-next.new.out
   filled =
       let o = ordered parted in
-      fills_join _ _ _ _ _ o.0 o.1 low.low-excitations.ensures.1
-      (fills_same _ _ _ _ _ (λ band p q. excite_is start (from parted) low.low-excitations.result low.low-excitations.ensures.0 o.0 band p)
-      (c.middle-excitations.ensures start.args.last).1)
+      fills_join _ _ _ _ _ o.0 o.1 low.low_excitations-leak.ensures.1
+      (fills_same _ _ _ _ _ (λ band p q. excite_is start (from parted) low.low_excitations-leak.result low.low_excitations-leak.ensures.0 o.0 band p)
+      (c.middle_excitations-next.ensures start.args.last).1)
 
-pub excitations-spec : {M : Type 1} → statement M
-excitations-spec =
+pub excitations_spec : {M : Type 1} → statement M
+excitations_spec =
     tie.close
     (tie.spec
     (λ c κs. search rules)
@@ -113,21 +113,21 @@ excitations-spec =
     let p = c.before in
     let s = begin p in
     let o = ordered p in
-    (s.pre.0, o.0, omega arith, (λ band a b. omega (arith, early p band b a)), s.pre.3, s.pre.4))
+    (s.requires.0, o.0, omega arith, (λ band a b. omega (arith, early p band b a)), s.requires.3, s.requires.4))
     (λ c κs.
     let l = c.before in
     let p = l.before.before in
     let s = begin p in
     let o = ordered p in
-    (l.low-excitations.ensures.1.long ∙ s.pre.0, o.1, omega arith, inside p, rw l.low-excitations.ensures.0 (bounded s _), s.pre.4))
+    (l.low_excitations-leak.ensures.1.long ∙ s.requires.0, o.1, omega arith, inside p, rw l.low_excitations-leak.ensures.0 (bounded s _), s.requires.4))
     (λ c κs.
     let m = c.before in
     let s = start m in
     let o = ordered (parted m) in
-    ((filled m).long ∙ s.pre.0, o.2, s.pre.2, late (parted m), rw (next_is m) (bounded s _), s.pre.4))
+    ((filled m).long ∙ s.requires.0, o.2, s.requires.2, late (parted m), rw (next_is m) (bounded s _), s.requires.4))
     (λ c.
     let m = c.before.before in
     let p = parted m in
     let o = ordered p in
     fills_join _ _ _ _ _ (omega arith) o.2 (filled m)
-    (fills_same _ _ _ _ _ (λ band a b. excite_is (start m) (to p) m.middle-excitations.result (next_is m) (omega arith) band a) c.high-excitations.ensures)))
+    (fills_same _ _ _ _ _ (λ band a b. excite_is (start m) (to p) m.middle_excitations-next.result (next_is m) (omega arith) band a) c.high_excitations.ensures)))

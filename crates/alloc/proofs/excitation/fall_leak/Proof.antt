@@ -14,25 +14,25 @@ use Rattle.alloc.proofs.Bounded.{fall_below}
 use Rattle.alloc.proofs.excitation.fall_leak.Statement.{statement}
 use Rattle.alloc.proofs.excitation.fall_leak.Tie as tie
 
-cast_fall_to : tie.Need-overflow-cast-fall-to
+cast_fall_to : tie.Need-overflow_cast-g
 cast_fall_to c = search rules
 
-sub_fall_to : tie.Need-overflow-sub-fall-to
+sub_fall_to : tie.Need-overflow_sub-here
 sub_fall_to c = let fgain = below_u16 c.before.args.g.fgain (omega arith) in search bounds depth 12
 
-fall-to-requires : tie.Need-fall-to-requires
+fall-to-requires : tie.Need-fall_to-fast-requires
 fall-to-requires c κs =
     let s = c.before.before in
     let fgain = below_u16 s.args.g.fgain (omega arith) in
     (below_read s.requires.3.fast, search bounds depth 12)
 
-cast_fall_to_2 : tie.Need-overflow-cast-fall-to-2
+cast_fall_to_2 : tie.Need-overflow_cast-g-2
 cast_fall_to_2 c = search rules
 
-sub_fall_to_2 : tie.Need-overflow-sub-fall-to-2
+sub_fall_to_2 : tie.Need-overflow_sub-here-2
 sub_fall_to_2 c = let sgain = below_u16 c.before.before.before.before.args.g.sgain (omega arith) in search bounds depth 12
 
-fall-to-requires-2 : tie.Need-fall-to-requires-2
+fall-to-requires-2 : tie.Need-fall_to-slow-requires
 fall-to-requires-2 c κs =
     let s = c.before.before.before.before.before in
     let sgain = below_u16 s.args.g.sgain (omega arith) in
@@ -46,41 +46,41 @@ module _ (s : tie.Start) where
   abbrev slow_of : ℤ
   slow_of = fall_to s.args.l.slow s.args.g.sdecay (s.args.here -ℤ pos s.args.g.sgain)
 
-fast : (c : tie.After-fall-to) → c.fall-to.result ≡ fast_of c.before.before.before
+fast : (c : tie.After-fall_to-fast) → c.fall_to-fast.result ≡ fast_of c.before.before.before
 fast c =
     let s = c.before.before.before in
     let fgain = below_u16 s.args.g.fgain (omega arith) in
     let leak = s.requires.3.fast in
-    c.fall-to.ensures ∙ rw (cast_32 s.args.g.fgain (omega arith)) (search levels depth 12)
+    c.fall_to-fast.ensures ∙ rw (cast_32 s.args.g.fgain (omega arith)) (search levels depth 12)
 
-slow : (c : tie.After-fall-to2) → c.fall-to2.result ≡ slow_of c.before.before.before.before.before.before
+slow : (c : tie.After-fall_to-slow) → c.fall_to-slow.result ≡ slow_of c.before.before.before.before.before.before
 slow c =
     let s = c.before.before.before.before.before.before in
     let sgain = below_u16 s.args.g.sgain (omega arith) in
     let leak = s.requires.3.slow in
-    c.fall-to2.ensures ∙ rw (cast_32 s.args.g.sgain (omega arith)) (search levels depth 12)
+    c.fall_to-slow.ensures ∙ rw (cast_32 s.args.g.sgain (omega arith)) (search levels depth 12)
 
 -- the fast leak and what it is lowered by, as they are read back
-module _ (c : tie.After-fall-to2) where
+module _ (c : tie.After-fall_to-slow) where
   abbrev start : tie.Start
   start = c.before.before.before.before.before.before
 
-  fast_back : to_z w32 (of_z w32 c.before.before.before.fall-to.result) ≡ fast_of start
-  fast_back = back_32 _ c.before.before.before.fall-to.type-inv ∙ fast c.before.before.before
+  fast_back : to_z w32 (of_z w32 c.before.before.before.fall_to-fast.result) ≡ fast_of start
+  fast_back = back_32 _ c.before.before.before.fall_to-fast.type_inv ∙ fast c.before.before.before
 
   less_back : to_z w32 (of_z w32 start.args.less) ≡ start.args.less
-  less_back = to_z-of_z w32 start.args.less start.fits.less
+  less_back = to_z-of_z w32 start.args.less start.ranges.less
 
   less_small : Below 18 (fast_of start -ℤ start.args.less)
   less_small =
       let fgain = below_u16 start.args.g.fgain (omega arith) in
       let floor : Below 17 (start.args.here -ℤ pos start.args.g.fgain) = search bounds depth 12 in
-      below_sub (fall_below _ _ _ start.pre.3.fast floor) (below_more start.pre.2 tt) tt
+      below_sub (fall_below _ _ _ start.requires.3.fast floor) (below_more start.requires.2 tt) tt
 
-sub_max : tie.Need-overflow-sub-max
+sub_max : tie.Need-overflow_sub-fast
 sub_max c = rw (fast_back c, less_back c) (fits_32 (below_more (less_small c) tt))
 
-max-requires : tie.Need-max-requires
+max-requires : tie.Need-max-excite-requires
 max-requires c κs = search rules
 
 returns : tie.Need-returns
@@ -88,14 +88,14 @@ unfolding fall_by
 returns c =
     let at = c.before in
     let s = start at in
-    let low = to_z-of_z w32 s.args.low s.fits.low in
-    let slow-is : to_z w32 (of_z w32 at.fall-to2.result) ≡ slow_of s = back_32 _ at.fall-to2.type-inv ∙ slow at in
+    let low = to_z-of_z w32 s.args.low s.ranges.low in
+    let slow-is : to_z w32 (of_z w32 at.fall_to-slow.result) ≡ slow_of s = back_32 _ at.fall_to-slow.type_inv ∙ slow at in
     let less-is : to_z w32 (of_z w32 (fast_of s -ℤ s.args.less)) ≡ fast_of s -ℤ s.args.less = to_z-of_z w32 _ (fits_32 (below_more (less_small at) tt)) in
-    let excite_is : to_z w32 (of_z w32 c.max.result) ≡ max_z (fast_of s -ℤ s.args.less) (slow_of s) =
-    back_32 _ c.max.type-inv ∙ rw (fast_back at, less_back at, less-is, slow-is) at c.max.ensures in
+    let excite_is : to_z w32 (of_z w32 c.max-excite.result) ≡ max_z (fast_of s -ℤ s.args.less) (slow_of s) =
+    back_32 _ c.max-excite.type_inv ∙ rw (fast_back at, less_back at, less-is, slow-is) at c.max-excite.ensures in
     rw (fast_back at, slow-is, low, excite_is)
 
-pub fall-leak-spec : {M : Type 1} → statement M
-fall-leak-spec =
+pub fall_leak_spec : {M : Type 1} → statement M
+fall_leak_spec =
     tie.close
     (tie.spec cast_fall_to sub_fall_to fall-to-requires cast_fall_to_2 sub_fall_to_2 fall-to-requires-2 sub_max max-requires returns)

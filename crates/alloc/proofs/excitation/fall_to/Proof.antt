@@ -7,10 +7,10 @@ use Rattle.alloc.specs.Allocation.{fall_to}
 use Rattle.alloc.proofs.excitation.fall_to.Statement.{statement}
 use Rattle.alloc.proofs.excitation.fall_to.Tie as tie
 
-cast_max : tie.Need-overflow-cast-max
+cast_max : tie.Need-overflow_cast-decay
 cast_max c = search rules
 
-sub_max : tie.Need-overflow-sub-max
+sub_max : tie.Need-overflow_sub-leak
 sub_max c = let decay = below_u16 c.args.decay (omega arith) in search bounds depth 12
 
 max-requires : tie.Need-max-requires
@@ -21,7 +21,7 @@ unfolding fall_to
 returns c =
     let s = c.before in
     let decay = below_u16 s.args.decay (omega arith) in
-    back_32 _ c.max.type-inv ∙ c.max.ensures ∙ rw (cast_32 s.args.decay (omega arith)) (search levels depth 12)
+    back_32 _ c.max.type_inv ∙ c.max.ensures ∙ rw (cast_32 s.args.decay (omega arith)) (search levels depth 12)
 
-pub fall-to-spec : {M : Type 1} → statement M
-fall-to-spec = tie.close (tie.spec cast_max sub_max max-requires returns)
+pub fall_to_spec : {M : Type 1} → statement M
+fall_to_spec = tie.close (tie.spec cast_max sub_max max-requires returns)

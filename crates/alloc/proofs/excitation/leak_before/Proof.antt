@@ -11,5 +11,5 @@ returns c =
     let slow = back_32 p.slowleak (below_more {k = 31} sound.slowleak tt).below in
     (rw (fast, slow), record { fast = rw fast sound.fastleak; slow = rw slow sound.slowleak; low = below_lit tt })
 
-pub leak-before-spec : {M : Type 1} → statement M
-leak-before-spec = tie.close (tie.spec returns)
+pub leak_before_spec : {M : Type 1} → statement M
+leak_before_spec = tie.close (tie.spec returns)

@@ -3,11 +3,11 @@ use borrow.Author.Tests.{lt-ltb, le-ltb}
 use Rattle.alloc.proofs.excitation.starts_anew.Statement.{statement}
 use Rattle.alloc.proofs.excitation.starts_anew.Tie as tie
 
-returns : tie.Need-returns
-returns c = rw (lt-ltb _ 7 c.if1.true)
+returns : tie.Need-returns-then-band-lt7
+returns c = rw (lt-ltb _ 7 c.if-band-lt7.true)
 
-returns-2 : tie.Need-returns-2
-returns-2 c = rw (le-ltb _ 7 c.if1.false)
+returns-2 : tie.Need-returns-else-band-lt7
+returns-2 c = rw (le-ltb _ 7 c.if-band-lt7.false)
 
-pub starts-anew-spec : {M : Type 1} → statement M
-starts-anew-spec = tie.close (tie.spec returns returns-2)
+pub starts_anew_spec : {M : Type 1} → statement M
+starts_anew_spec = tie.close (tie.spec returns returns-2)

@@ -15,32 +15,32 @@ use Rattle.alloc.proofs.Filled.{fills_none, fills_set, fills_rest, fills_ended}
 use Rattle.alloc.proofs.mask.add_delta.Statement.{statement}
 use Rattle.alloc.proofs.mask.add_delta.Tie as tie
 
-abbrev invariant-loop : tie.invariant-loop
-invariant-loop out₀ first last delta band₀ out band = (first ≤ band) × (band ≤ max first last) × Fills (pos 0) first band (λ j. at out₀ j +ℤ to_z w32 delta) out₀ out
+abbrev invariant-loop-band : tie.invariant-loop-band
+invariant-loop-band out₀ first last delta band₀ out band = (first ≤ band) × (band ≤ max first last) × Fills (pos 0) first band (λ j. at out₀ j +ℤ to_z w32 delta) out₀ out
 
-abbrev decreases-loop : tie.decreases-loop
-decreases-loop out₀ first last delta band₀ out band = last - band
+abbrev decreases-loop-band : tie.decreases-loop-band
+decreases-loop-band out₀ first last delta band₀ out band = last - band
 
 -- what the band had, read back, is what it had at first
-module _ (c : tie.After-out invariant-loop decreases-loop) where
+module _ (c : tie.After-out-1 invariant-loop-band decreases-loop-band) where
   abbrev old : ℤ
-  old = at c.before.before.before.args.out.now c.before.before.loop.band
+  old = at c.before.before.before.args.out.now c.before.before.loop-band.band
 
-  old_is : to_z w32 (of_z w32 (get_or c.before.before.loop.out c.before.before.loop.band (pos 0))) ≡ old
-  old_is = back_32 _ c.out.given ∙ fills_rest _ _ _ _ c.before.before.loop.invariant.2 c.before.before.loop.band (omega arith)
+  old_is : to_z w32 (of_z w32 (get_or c.before.before.loop-band.out c.before.before.loop-band.band (pos 0))) ≡ old
+  old_is = back_32 _ c.out-1.given ∙ fills_rest _ _ _ _ c.before.before.loop-band.invariant.2 c.before.before.loop-band.band (omega arith)
 
   sum_fits : SFits w32 (old +ℤ to_z w32 (of_z w32 c.before.before.before.args.delta))
   sum_fits =
-      let o = c.before.before.before.requires.3 c.before.before.loop.band in
+      let o = c.before.before.before.requires.3 c.before.before.loop-band.band in
       let d = c.before.before.before.requires.2 in
       search bounds depth 12
 
-pub add-delta-spec : {M : Type 1} → statement M
-add-delta-spec =
+pub add_delta_spec : {M : Type 1} → statement M
+add_delta_spec =
     tie.close
     (tie.spec
-    invariant-loop
-    decreases-loop
+    invariant-loop-band
+    decreases-loop-band
     (λ c. (search rules, omega arith, fills_none _ _ _ _))
     (λ c. search rules)
     (λ c. search rules)
@@ -49,12 +49,12 @@ add-delta-spec =
     (λ c. search rules)
     (λ c. search rules)
     (λ c.
-    let at = c.before.before.loop in (
+    let at = c.before.before.loop-band in (
       search rules,
       omega arith,
       fills_set _ _ _ _ at.out at.band _ (omega arith) (omega (arith, at.invariant.2.long)) (rw (old_is c) (to_z-of_z w32 _ (sum_fits c))) at.invariant.2,
     ))
     (λ c.
     let s = c.before.before in
-    let filled = rw (to_z-of_z w32 s.args.delta s.ranges.delta) at c.before.loop.invariant.2 in
+    let filled = rw (to_z-of_z w32 s.args.delta s.ranges.delta) at c.before.loop-band.invariant.2 in
     fills_ended _ _ _ _ _ (omega arith) (omega arith) filled))

@@ -32,13 +32,13 @@ down : (code : ℕ) → code < 4 → delta_of code ≡ (pos code -ℤ pos 4) *�
 unfolding delta_of
 down code h = rw (lt-leb 4 code h)
 
-pub delta-of-spec : {M : Type 1} → statement M
-delta-of-spec =
+pub delta_of_spec : {M : Type 1} → statement M
+delta_of_spec =
     tie.close
     (tie.spec
     (λ c. search rules)
     (λ c. let small = below_u16 c.before.args.code (omega arith) in search bounds depth 12)
-    (λ c. let code = c.before.args.code in arm code (omega arith) (shifted code 3 (omega arith) (below_lit tt)) (up code c.if1.true))
+    (λ c. let code = c.before.args.code in arm code (omega arith) (shifted code 3 (omega arith) (below_lit tt)) (up code c.if-code-ge4.true))
     (λ c. search rules)
     (λ c. let small = below_u16 c.before.args.code (omega arith) in search bounds depth 12)
-    (λ c. let code = c.before.args.code in arm code (omega arith) (shifted code 4 (omega arith) (below_lit tt)) (down code c.if1.false)))
+    (λ c. let code = c.before.args.code in arm code (omega arith) (shifted code 4 (omega arith) (below_lit tt)) (down code c.if-code-ge4.false)))

@@ -22,8 +22,8 @@ use Rattle.alloc.proofs.Filled.{cleared}
 use Rattle.alloc.proofs.mask.deltas.Statement.{statement}
 use Rattle.alloc.proofs.mask.deltas.Tie as tie
 
-abbrev invariant-loop : tie.invariant-loop
-invariant-loop segments count out₀ from₀ n₀ out from n =
+abbrev invariant-loop-n : tie.invariant-loop-n
+invariant-loop-n segments count out₀ from₀ n₀ out from n =
     (n ≤ count)
     × (from ≤ 510 * n)
     × (from ≡ passed segments n)
@@ -31,8 +31,8 @@ invariant-loop segments count out₀ from₀ n₀ out from n =
     × ((band : ℕ) → band < 50 → at out band ≡ delta_sum segments band n)
     × ((band : ℕ) → mag (at out band) < 1 + 2 ^ 16 * n)
 
-abbrev decreases-loop : tie.decreases-loop
-decreases-loop segments count out₀ from₀ n₀ out from n = count - n
+abbrev decreases-loop-n : tie.decreases-loop-n
+decreases-loop-n segments count out₀ from₀ n₀ out from n = count - n
 
 -- a range that is cut off at the last band has the same bands
 cut : (last band : ℕ) → band < 50 → ltb band (min last 50) ≡ ltb band last
@@ -52,66 +52,66 @@ grown true x d p q = mag_add x d p q
 grown false x d p q = omega arith
 
 -- a segment, as the code has it and as the definition has it
-module _ (c : tie.After-delta-of invariant-loop decreases-loop) where
-  abbrev turn : tie.At-loop invariant-loop decreases-loop
-  turn = c.before.before.before.before.before.before.before.before.before
+module _ (c : tie.After-delta_of invariant-loop-n decreases-loop-n) where
+  abbrev turn : tie.At-loop-n invariant-loop-n decreases-loop-n
+  turn = c.before.before.before.before.before.before.before.before.before.before
 
   abbrev segments : List ℕ
   segments = turn.before.before.args.segments.now
 
   abbrev n : ℕ
-  n = turn.loop.n
+  n = turn.loop-n.n
 
   abbrev first : ℕ
-  first = turn.loop.from + c.before.before.before.before.before.before.wide.result
+  first = turn.loop-n.from + c.before.before.before.before.before.before.wide.result
 
   abbrev last : ℕ
-  last = first + c.before.before.before.before.wide2.result
+  last = first + c.before.before.before.before.wide-in-loop-n.result
 
   first_is : first ≡ passed segments n + get_or segments (n * 3) 0
-  first_is = omega (arith, turn.loop.inv.2, c.before.before.before.before.before.before.wide.ensures.0)
+  first_is = omega (arith, turn.loop-n.invariant.2, c.before.before.before.before.before.before.wide.ensures.0)
 
   last_is : last ≡ passed segments (suc n)
   unfolding passed
-  last_is = omega (arith, first_is, c.before.before.before.before.wide2.ensures.0)
+  last_is = omega (arith, first_is, c.before.before.before.before.wide-in-loop-n.ensures.0)
 
-  delta_is : to_z w32 (of_z w32 c.delta-of.result) ≡ delta_of (get_or segments (n * 3 + 2) 0)
-  delta_is = back_32 _ c.delta-of.type-inv ∙ c.delta-of.ensures.0
+  delta_is : to_z w32 (of_z w32 c.delta_of.result) ≡ delta_of (get_or segments (n * 3 + 2) 0)
+  delta_is = back_32 _ c.delta_of.type_inv ∙ c.delta_of.ensures.0
 
 -- after one segment more
-module _ (c : tie.After-add-delta invariant-loop decreases-loop) (band : ℕ) where
-  abbrev before : tie.After-delta-of invariant-loop decreases-loop
+module _ (c : tie.After-add_delta invariant-loop-n decreases-loop-n) (band : ℕ) where
+  abbrev before : tie.After-delta_of invariant-loop-n decreases-loop-n
   before = c.before
 
   abbrev inside : Bool
   inside = leb (first before) band && ltb band before.before.before.least.result
 
-  now_is : at c.add-delta.new.0 band ≡ cond inside (at (turn before).loop.out band +ℤ to_z w32 (of_z w32 before.delta-of.result)) (at (turn before).loop.out band)
-  now_is = c.add-delta.ensures.entries band
+  now_is : at c.add_delta.new.out band ≡ cond inside (at (turn before).loop-n.out band +ℤ to_z w32 (of_z w32 before.delta_of.result)) (at (turn before).loop-n.out band)
+  now_is = c.add_delta.ensures.entries band
 
-  one_more : band < 50 → at c.add-delta.new.0 band ≡ delta_sum (segments before) band (suc (n before))
+  one_more : band < 50 → at c.add_delta.new.out band ≡ delta_sum (segments before) band (suc (n before))
   unfolding delta_sum delta_in
   one_more h =
       let to : ltb band before.before.before.least.result ≡ ltb band (last before) = ap (ltb band) before.before.before.least.ensures ∙ cut (last before) band h in
-      now_is ∙ added inside (at (turn before).loop.out band) (to_z w32 (of_z w32 before.delta-of.result))
-      ∙ ap₂ ◌+ℤ◌ ((turn before).loop.inv.4 band h)
+      now_is ∙ added inside (at (turn before).loop-n.out band) (to_z w32 (of_z w32 before.delta_of.result))
+      ∙ ap₂ ◌+ℤ◌ ((turn before).loop-n.invariant.4 band h)
       (ap₂ (λ (t : Bool) (d : ℤ). cond t d (pos 0)) (ap₂ ◌&&◌ (ap (λ (k : ℕ). leb k band) (first_is before)) (to ∙ ap (ltb band) (last_is before))) (delta_is before))
 
-  more_mag : mag (at c.add-delta.new.0 band) < 1 + 2 ^ 16 * suc (n before)
+  more_mag : mag (at c.add_delta.new.out band) < 1 + 2 ^ 16 * suc (n before)
   more_mag =
-      let delta = below_read before.delta-of.ensures.1 in
-      rw now_is (lt_of_lt_of_le (grown inside (at (turn before).loop.out band) (to_z w32 (of_z w32 before.delta-of.result)) ((turn before).loop.inv.5 band) delta.below) (omega arith))
+      let delta = below_read before.delta_of.ensures.1 in
+      rw now_is (lt_of_lt_of_le (grown inside (at (turn before).loop-n.out band) (to_z w32 (of_z w32 before.delta_of.result)) ((turn before).loop-n.invariant.5 band) delta.below) (omega arith))
 
-pub deltas-spec : {M : Type 1} → statement M
+pub deltas_spec : {M : Type 1} → statement M
 unfolding passed delta_sum
-deltas-spec =
+deltas_spec =
     tie.close
     (tie.spec
-    invariant-loop
-    decreases-loop
+    invariant-loop-n
+    decreases-loop-n
     (λ c κs. search rules)
     (λ c.
-    let z = c.no-bands.ensures in
+    let z = c.no_bands-out.ensures in
     (search rules, search rules, search rules, rw z, (λ band h. rw z (cleared 50 band)), (λ band. rw (z, cleared 50 band) (lit< tt))))
     (λ c. search rules)
     (λ c. search rules)
@@ -128,28 +128,28 @@ deltas-spec =
     (λ c. search rules)
     (λ c κs. search rules)
     (λ c κs.
-    let here = (turn c).loop in (
-      here.inv.3,
+    let here = (turn c).loop-n in (
+      here.invariant.3,
       omega (arith, c.before.before.least.ensures),
-      below_read c.delta-of.ensures.1,
-      λ k. record { below = omega (arith, here.inv.5 k) },
+      below_read c.delta_of.ensures.1,
+      λ k. record { below = omega (arith, here.invariant.5 k) },
     ))
     (λ c. search rules)
     (λ c. search rules)
     (λ c.
     let before = c.before in
-    let here = (turn before).loop in
+    let here = (turn before).loop-n in
     let more = add-one here.n in
     let last = last_is before in (
       search rules,
-      omega (arith, before.before.before.before.before.before.before.wide.ensures.1, before.before.before.before.before.wide2.ensures.1),
+      omega (arith, before.before.before.before.before.before.before.wide.ensures.1, before.before.before.before.before.wide-in-loop-n.ensures.1),
       rw more last,
-      c.add-delta.ensures.long ∙ here.inv.3,
+      c.add_delta.ensures.long ∙ here.invariant.3,
       (λ band h. rw more (one_more c band h)),
       (λ band. rw more (more_mag c band)),
     ))
     (λ c.
-    let here = c.before.loop in
+    let here = c.before.loop-n in
     let s = c.before.before.before in
     let end : here.n ≡ s.args.count = omega arith in
     ((λ band h. rw (← end) (here.invariant.4 band h)), (λ band. record { below = omega (arith, here.invariant.5 band) }))))

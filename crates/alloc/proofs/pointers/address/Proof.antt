@@ -24,11 +24,11 @@ module _ (s : tie.Start) where
 
   small : Below 15 apart
   small =
-      let psd = natural s.args.psd s.pre.0 s.pre.1 in
-      below_sub (below_is psd.0 (record { below = omega (arith, psd.1) })) s.pre.2.below tt
+      let psd = natural s.args.psd s.requires.0 s.requires.1 in
+      below_sub (below_is psd.0 (record { below = omega (arith, psd.1) })) s.requires.2.below tt
 
   apart_is : to_z w32 (of_z w32 s.args.psd) -ℤ to_z w32 (of_z w32 s.args.mask) ≡ apart
-  apart_is = rw (to_z-of_z w32 s.args.psd s.fits.psd, to_z-of_z w32 s.args.mask s.fits.mask)
+  apart_is = rw (to_z-of_z w32 s.args.psd s.ranges.psd, to_z-of_z w32 s.args.mask s.ranges.mask)
 
   shifted : to_z w32 (of_z w32 (shr_z (to_z w32 (of_z w32 (to_z w32 (of_z w32 s.args.psd) -ℤ to_z w32 (of_z w32 s.args.mask)))) 32)) ≡ shr_z apart 32
   shifted =
@@ -38,7 +38,7 @@ module _ (s : tie.Start) where
 -- what the larger of that and 0 is, and that it fits a byte
 module _ (c : tie.After-max) where
   low_is : to_z w32 (of_z w32 c.max.result) ≡ max_z (shr_z (apart c.before) 32) (pos 0)
-  low_is = back_32 _ c.max.type-inv ∙ c.max.ensures ∙ rw (shifted c.before)
+  low_is = back_32 _ c.max.type_inv ∙ c.max.ensures ∙ rw (shifted c.before)
 
 pub address_spec : {M : Type 1} → statement M
 unfolding address_of
@@ -51,4 +51,4 @@ address_spec =
     let s = c.before in
     rw (low_is c ∙ max_zero (shr_z (apart s) 32)) (tt, record { fits = fits_byte s.args.psd s.args.mask s.requires.0 s.requires.1 s.requires.2.above }))
     (λ c κs. search rules)
-    (λ c. c.at-most-63.ensures ∙ rw (low_is c.before) (clamped (shr_z (apart c.before.before) 32))))
+    (λ c. c.at_most_63.ensures ∙ rw (low_is c.before) (clamped (shr_z (apart c.before.before) 32))))

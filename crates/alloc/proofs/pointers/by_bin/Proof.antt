@@ -1,7 +1,7 @@
 -- `alloc::pointers::by_bin` meets its contract: bands of each width in turn, and every bin below 253 is in one of them.
 -- Assumes nothing.
 use mathlib.Core.Path.{◌∙◌, refl, sym, ap}
-use Prim.Native.Nat.{ℕ, ◌≤◌, zero-le}
+use Prim.Native.Nat.{ℕ, zero-le}
 use native.Mathlib.Omega.{arith}
 use borrow.Author.Rules.{rules}
 use borrow.Author.Tests.{lt-ltb, le-ltb}
@@ -19,7 +19,7 @@ limit_of s bin = at s.args.thresholds.now (band_of bin)
 
 -- the bins below 28, and then those of each width
 module _ (c : tie.After-narrow) where
-  filled_1 : Fills (pos 0) 0 (start_of 28) (limit_of c.before.before) c.before.before.args.out.now c.narrow.new.0
+  filled_1 : Fills (pos 0) 0 (start_of 28) (limit_of c.before.before) c.before.before.args.out.now c.narrow.new.out
   filled_1 =
       let start = start_after 27 ∙ (narrow 27 (lit≤ tt)).1 in
       fills_moved _ _ _ refl (sym start)
@@ -28,20 +28,20 @@ module _ (c : tie.After-narrow) where
       ap (at c.before.before.args.thresholds.now) (sym (band_at bin bin (omega arith) (omega arith) (omega arith))))
       c.narrow.ensures
 
-filled_3 : (c : tie.After-spread) → Fills (pos 0) 0 (start_of 35) (limit_of c.before.before.before.before.before) c.before.before.before.before.before.args.out.now c.spread.new.0
+filled_3 : (c : tie.After-spread) → Fills (pos 0) 0 (start_of 35) (limit_of c.before.before.before.before.before) c.before.before.before.before.before.args.out.now c.spread.new.out
 filled_3 c = fills_join _ _ _ _ _ zero-le (start_mono 28 35 (lit≤ tt) (lit≤ tt)) (filled_1 c.before.before.before) c.spread.ensures
 
-filled_6 : (c : tie.After-spread2) → Fills (pos 0) 0 (start_of 41) (limit_of c.before.before.before.before.before.before.before) c.before.before.before.before.before.before.before.args.out.now c.spread2.new.0
-filled_6 c = fills_join _ _ _ _ _ zero-le (start_mono 35 41 (lit≤ tt) (lit≤ tt)) (filled_3 c.before.before) c.spread2.ensures
+filled_6 : (c : tie.After-spread-2) → Fills (pos 0) 0 (start_of 41) (limit_of c.before.before.before.before.before.before.before) c.before.before.before.before.before.before.before.args.out.now c.spread-2.new.out
+filled_6 c = fills_join _ _ _ _ _ zero-le (start_mono 35 41 (lit≤ tt) (lit≤ tt)) (filled_3 c.before.before) c.spread-2.ensures
 
-filled_12 : (c : tie.After-spread3) → Fills (pos 0) 0 (start_of 45) (limit_of c.before.before.before.before.before.before.before.before.before) c.before.before.before.before.before.before.before.before.before.args.out.now c.spread3.new.0
-filled_12 c = fills_join _ _ _ _ _ zero-le (start_mono 41 45 (lit≤ tt) (lit≤ tt)) (filled_6 c.before.before) c.spread3.ensures
+filled_12 : (c : tie.After-spread-3) → Fills (pos 0) 0 (start_of 45) (limit_of c.before.before.before.before.before.before.before.before.before) c.before.before.before.before.before.before.before.before.before.args.out.now c.spread-3.new.out
+filled_12 c = fills_join _ _ _ _ _ zero-le (start_mono 41 45 (lit≤ tt) (lit≤ tt)) (filled_6 c.before.before) c.spread-3.ensures
 
-filled_24 : (c : tie.After-spread4) → Fills (pos 0) 0 (start_of 50) (limit_of c.before.before.before.before.before.before.before.before.before.before.before) c.before.before.before.before.before.before.before.before.before.before.before.args.out.now c.spread4.new.0
-filled_24 c = fills_join _ _ _ _ _ zero-le (start_mono 45 50 (lit≤ tt) (lit≤ tt)) (filled_12 c.before.before) c.spread4.ensures
+filled_24 : (c : tie.After-spread-4) → Fills (pos 0) 0 (start_of 50) (limit_of c.before.before.before.before.before.before.before.before.before.before.before) c.before.before.before.before.before.before.before.before.before.before.before.args.out.now c.spread-4.new.out
+filled_24 c = fills_join _ _ _ _ _ zero-le (start_mono 45 50 (lit≤ tt) (lit≤ tt)) (filled_12 c.before.before) c.spread-4.ensures
 
-pub by-bin-spec : {M : Type 1} → statement M
-by-bin-spec =
+pub by_bin_spec : {M : Type 1} → statement M
+by_bin_spec =
     tie.close
     (tie.spec
     (λ c κs. search rules)

@@ -12,27 +12,27 @@ use Rattle.alloc.proofs.Filled.{fills_none, fills_set}
 use Rattle.alloc.proofs.pointers.fill.Statement.{statement}
 use Rattle.alloc.proofs.pointers.fill.Tie as tie
 
-abbrev invariant-loop : tie.invariant-loop
-invariant-loop out₀ first last threshold bin₀ out bin = (first ≤ bin) × (bin ≤ last) × Fills (pos 0) first bin (λ j. to_z w32 threshold) out₀ out
+abbrev invariant-loop-bin : tie.invariant-loop-bin
+invariant-loop-bin out₀ first last threshold bin₀ out bin = (first ≤ bin) × (bin ≤ last) × Fills (pos 0) first bin (λ j. to_z w32 threshold) out₀ out
 
-abbrev decreases-loop : tie.decreases-loop
-decreases-loop out₀ first last threshold bin₀ out bin = last - bin
+abbrev decreases-loop-bin : tie.decreases-loop-bin
+decreases-loop-bin out₀ first last threshold bin₀ out bin = last - bin
 
 pub fill_spec : {M : Type 1} → statement M
 fill_spec =
     tie.close
     (tie.spec
-    invariant-loop
-    decreases-loop
+    invariant-loop-bin
+    decreases-loop-bin
     (λ c. (search rules, search rules, fills_none _ _ _ _))
     (λ c. search rules)
     (λ c. search rules)
     (λ c. search rules)
     (λ c. search rules)
     (λ c.
-    let at = c.before.loop in
+    let at = c.before.loop-bin in
     (search rules, search rules, fills_set _ _ _ _ at.out at.bin _ (omega arith) (omega (arith, at.invariant.2.long)) refl at.invariant.2))
     (λ c.
     let s = c.before.before in
-    let end : c.before.loop.bin ≡ s.args.last = omega arith in
-    rw (end, to_z-of_z w32 s.args.threshold s.ranges.threshold) at c.before.loop.invariant.2))
+    let end : c.before.loop-bin.bin ≡ s.args.last = omega arith in
+    rw (end, to_z-of_z w32 s.args.threshold s.ranges.threshold) at c.before.loop-bin.invariant.2))

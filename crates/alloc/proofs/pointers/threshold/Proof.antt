@@ -16,10 +16,10 @@ use Rattle.alloc.specs.Allocation.{kept, threshold}
 use Rattle.alloc.proofs.pointers.threshold.Statement.{statement}
 use Rattle.alloc.proofs.pointers.threshold.Tie as tie
 
-sub_max : tie.Need-overflow-sub-max
+sub_max : tie.Need-overflow_sub-mask
 sub_max c = search bounds depth 12
 
-sub_max_2 : tie.Need-overflow-sub-max-2
+sub_max_2 : tie.Need-overflow_sub-mask-2
 sub_max_2 c = search bounds depth 12
 
 max-requires : tie.Need-max-requires
@@ -35,7 +35,7 @@ module _ (c : tie.After-max) where
   cut =
       let larger : c.max.result ≡ max_z over (pos 0) = c.max.ensures ∙ search levels depth 12 in
       let is : c.max.result ≡ pos (nat_abs (max_z over (pos 0))) = larger ∙ max_zero over in
-      rw is (masked (nat_abs (max_z over (pos 0))) 8 5 (rw is at c.max.type-inv))
+      rw is (masked (nat_abs (max_z over (pos 0))) 8 5 (rw is at c.max.type_inv))
 
   small : Below 13 (kept (max_z over (pos 0)))
   unfolding kept
@@ -44,12 +44,12 @@ module _ (c : tie.After-max) where
   sum_fits : SFits w32 (kept (max_z over (pos 0)) +ℤ c.before.args.floor)
   sum_fits = fits_32 (below_add (below_more small tt) (search bounds) tt)
 
-add_result : tie.Need-overflow-add-result
+add_result : tie.Need-overflow_add-result
 add_result c = rw (cut c, to_z-of_z w32 c.before.args.floor c.before.ranges.floor) (sum_fits c)
 
 returns : tie.Need-returns
 unfolding threshold
 returns c = rw (cut c, to_z-of_z w32 c.before.args.floor c.before.ranges.floor) (to_z-of_z w32 _ (sum_fits c))
 
-pub threshold-spec : {M : Type 1} → statement M
-threshold-spec = tie.close (tie.spec sub_max sub_max_2 max-requires add_result returns)
+pub threshold_spec : {M : Type 1} → statement M
+threshold_spec = tie.close (tie.spec sub_max sub_max_2 max-requires add_result returns)

@@ -1,14 +1,12 @@
 -- `alloc::psd::drop` meets its contract: the shift is a product with 128. Assumes nothing.
-use mathlib.Core.Path.{◌≡◌, ◌∙◌, sym, ap}
+use mathlib.Core.Path.{◌≡◌, ◌∙◌, ap}
 use Prim.Native.Nat.{◌*◌, ◌%◌, ◌^◌}
-use lib.IntN.{pos, neg_ℤ, ◌*ℤ◌, +ℤ_idl}
+use lib.IntN.{pos, neg_ℤ, ◌*ℤ◌}
 use mir.Syntax.{w16, w32}
 use mir.Val.{to_z, of_z}
 use mir.ValLaws.{to_z-of_z}
-use Rattle.signed.specs.Bound.{Below}
 use Rattle.signed.proofs.Bounds.{bounds, below_i16, below_is}
 use Rattle.signed.proofs.Shift.{shl_by}
-use Rattle.alloc.specs.Stages.{relative}
 use Rattle.alloc.proofs.Bounded.{drop_below, drop_is}
 use Rattle.alloc.proofs.psd.drop.Statement.{statement}
 use Rattle.alloc.proofs.psd.drop.Tie as tie

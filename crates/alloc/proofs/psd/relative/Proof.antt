@@ -14,14 +14,14 @@ use Rattle.alloc.proofs.psd.relative.Tie as tie
 
 module _ (c : tie.After-level) where
   level_is : to_z w32 (of_z w32 c.level.result) ≡ psd_of c.before.args.exponent
-  level_is = back_32 _ c.level.type-inv ∙ c.level.ensures ∙ ap psd_of (to_z-of_z w16 c.before.args.exponent c.before.ranges.exponent)
+  level_is = back_32 _ c.level.type_inv ∙ c.level.ensures ∙ ap psd_of (to_z-of_z w16 c.before.args.exponent c.before.ranges.exponent)
 
   small : Below 31 (relative c.before.args.exponent)
   small = below_more (relative_small c.before.args.exponent c.before.requires.0 c.before.requires.1) tt
 
-pub relative-spec : {M : Type 1} → statement M
+pub relative_spec : {M : Type 1} → statement M
 unfolding relative
-relative-spec =
+relative_spec =
     tie.close
     (tie.spec
     (λ c κs. search rules)

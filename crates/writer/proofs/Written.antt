@@ -3,10 +3,9 @@ use mathlib.Core.List.{List, [], ◌∷◌, ◌++◌}
 use mathlib.Core.Path.{◌≡◌, refl, sym, ap, ◌∙◌}
 use Prim.Native.Nat.{ℕ, suc, ◌+◌, ◌-◌, ◌≤◌, ◌<◌, min}
 use native.Mathlib.Decide.{dec_le}
-use native.Mathlib.Nat.{add-zero}
 use native.Mathlib.Numerals.{add-one}
 use native.Mathlib.Omega.{arith}
-use lib.ListN.{length, take, drop, get_or, set, length-set, length-take, take-append-drop, drop_of_length-le}
+use lib.ListN.{length, take, drop, get_or, set, length-set, take-append-drop, drop_of_length-le}
 use Rattle.naturals.proofs.Stored.{sets_append}
 use lib.Seq.{sets, sets-eq, length-sets, set_out, take-suc, length-take-le}
 

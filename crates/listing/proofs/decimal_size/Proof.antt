@@ -12,31 +12,31 @@ use Rattle.listing.proofs.Decimals.{decimal_count, decimal_small, decimal_large,
 use Rattle.listing.proofs.decimal_size.Statement.{statement}
 use Rattle.listing.proofs.decimal_size.Tie as tie
 
-abbrev invariant-loop : tie.invariant-loop
-invariant-loop v rest₀ n₀ rest n = (n + length (decimal rest) ≡ 1 + length (decimal v)) × (rest < 2 ^ 64)
+abbrev invariant-loop-rest : tie.invariant-loop-rest
+invariant-loop-rest v rest₀ n₀ rest n = (n + length (decimal rest) ≡ 1 + length (decimal v)) × (rest < 2 ^ 64)
 
-abbrev decreases-loop : tie.decreases-loop
-decreases-loop v rest₀ n₀ rest n = rest
+abbrev decreases-loop-rest : tie.decreases-loop-rest
+decreases-loop-rest v rest₀ n₀ rest n = rest
 
-pub decimal-size-spec : {M : Type 1} → statement M
-decimal-size-spec =
+pub decimal_size_spec : {M : Type 1} → statement M
+decimal_size_spec =
     tie.close
     (tie.spec
-    invariant-loop
-    decreases-loop
-    (λ c. (sym (ap length (decimal_small c.if1.true)), lit≤ tt))  -- returns
-    (λ c. (sym (decimal_count 1 c.before.before.args.v c.before.if1.false c.if2.true (omega arith)), lit≤ tt))  -- returns-2
-    (λ c. (sym (decimal_count 2 c.before.before.before.args.v c.before.if2.false c.if3.true (omega arith)), lit≤ tt))  -- returns-3
-    (λ c. (sym (decimal_count 3 c.before.before.before.before.args.v c.before.if3.false c.if4.true (omega arith)), lit≤ tt))  -- returns-4
-    (λ c. (sym (decimal_count 4 c.before.before.before.before.before.args.v c.before.if4.false c.if5.true (omega arith)), lit≤ tt))  -- returns-5
+    invariant-loop-rest
+    decreases-loop-rest
+    (λ c. (sym (ap length (decimal_small c.if-v-lt10.true)), lit≤ tt))  -- returns
+    (λ c. (sym (decimal_count 1 c.before.before.args.v c.before.if-v-lt10.false c.if-v-lt100.true (omega arith)), lit≤ tt))  -- returns-2
+    (λ c. (sym (decimal_count 2 c.before.before.before.args.v c.before.if-v-lt100.false c.if-v-lt1000.true (omega arith)), lit≤ tt))  -- returns-3
+    (λ c. (sym (decimal_count 3 c.before.before.before.before.args.v c.before.if-v-lt1000.false c.if-v-lt10000.true (omega arith)), lit≤ tt))  -- returns-4
+    (λ c. (sym (decimal_count 4 c.before.before.before.before.before.args.v c.before.if-v-lt10000.false c.if-v-lt100000.true (omega arith)), lit≤ tt))  -- returns-5
     (λ c. (refl, omega arith))  -- loop_holds
-    (λ c. omega (arith, decimal_few c.before.before.before.before.before.before.before.args.v, c.before.loop.invariant.0))  -- add-n
-    (λ c. div-lt_self (omega (arith, c.loop-test.true)) (lit< tt))  -- loop-less
+    (λ c. omega (arith, decimal_few c.before.before.before.before.before.before.before.args.v, c.before.loop-rest.invariant.0))  -- add-n
+    (λ c. div-lt_self (omega (arith, c.loop-rest-test.true)) (lit< tt))  -- loop-less
     (λ c.
-    let l = c.before.loop in (
-      omega (arith, l.invariant.0, ap length (decimal_large c.loop-test.true l.invariant.1), length-append (decimal (l.rest / 10)) ((48 + l.rest % 10) ∷ [])),
+    let l = c.before.loop-rest in (
+      omega (arith, l.invariant.0, ap length (decimal_large c.loop-rest-test.true l.invariant.1), length-append (decimal (l.rest / 10)) ((48 + l.rest % 10) ∷ [])),
       omega (arith, div-le_self l.rest 10, l.invariant.1),
     ))  -- loop_again
     (λ c.
     let s = decimal_few c.before.before.before.before.before.before.before.args.v in
-    omega (arith, c.before.loop.invariant.0, ap length (decimal_small c.loop-test.false))))  -- returns-6
+    omega (arith, c.before.loop-rest.invariant.0, ap length (decimal_small c.loop-rest-test.false))))  -- returns-6

@@ -6,10 +6,10 @@ use Rattle.listing.specs.Number.{letters}
 use Rattle.listing.proofs.letter.Statement.{statement}
 use Rattle.listing.proofs.letter.Tie as tie
 
-pub letter-spec : {M : Type 1} → statement M
-letter-spec =
+pub letter_spec : {M : Type 1} → statement M
+letter_spec =
     tie.close
     (tie.spec
     (λ c. search rules)  -- array-read-result
     (λ c. search rules)  -- returns
-    (λ c. sym (get_or-eq_default letters 0 c.if1.false)))  -- returns-2
+    (λ c. sym (get_or-eq_default letters 0 c.if-at-lt14.false)))  -- returns-2

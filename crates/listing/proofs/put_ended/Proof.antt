@@ -9,8 +9,8 @@ use Rattle.listing.proofs.Left.{both}
 use Rattle.listing.proofs.put_ended.Statement.{statement}
 use Rattle.listing.proofs.put_ended.Tie as tie
 
-pub put-ended-spec : {M : Type 1} → statement M
-put-ended-spec =
+pub put_ended_spec : {M : Type 1} → statement M
+put_ended_spec =
     tie.close
     (tie.spec
     (λ c κs.
@@ -23,11 +23,11 @@ put-ended-spec =
       arith,
       s.requires,
       length-append (signed s.args.v) (separator s.args.left ∷ []),
-      c.before.before.before.before.put-signed.ensures.0,
-      c.before.before.before.before.put-signed.auto.0,
+      c.before.before.before.before.put_signed-to.ensures.0,
+      c.before.before.before.before.put_signed-to.auto.out,
     ))  -- put-requires
-    (λ c. c.before.before.put.auto.0 ∙ c.before.before.before.before.before.before.before.put-signed.auto.0)  -- same-length
+    (λ c. c.before.before.put.auto.out ∙ c.before.before.before.before.before.before.before.put_signed-to.auto.out)  -- same-length
     (λ c.
     let s = c.before.before.before.before.before.before.before.before.before.before in
-    both s.args.out.now s.args.at (signed s.args.v) (separator s.args.left ∷ []) c.before.before.before.before.before.before.before.put-signed.ensures
-    (rw c.before.before.before.separator-of.ensures at c.before.before.put.ensures)))  -- returns
+    both s.args.out.now s.args.at (signed s.args.v) (separator s.args.left ∷ []) c.before.before.before.before.before.before.before.put_signed-to.ensures
+    (rw c.before.before.before.separator_of.ensures at c.before.before.put.ensures)))  -- returns

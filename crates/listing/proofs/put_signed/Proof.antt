@@ -9,30 +9,30 @@ use Rattle.listing.proofs.Left.{both}
 use Rattle.listing.proofs.put_signed.Statement.{statement}
 use Rattle.listing.proofs.put_signed.Tie as tie
 
-pub put-signed-spec : {M : Type 1} → statement M
-put-signed-spec =
+pub put_signed_spec : {M : Type 1} → statement M
+put_signed_spec =
     tie.close
     (tie.spec
-    (λ c κs. omega (arith, ap length (signed_none c.before.if1.true), c.before.before.before.requires))  -- put-requires
-    (λ c κs. omega (arith, ap length (signed_none c.before.before.before.before.before.if1.true), c.before.before.before.before.before.before.before.requires, c.before.before.before.put.ensures.0, c.before.before.before.put.auto.0))  -- put-requires-2
-    (λ c. c.before.before.put2.auto.0 ∙ c.before.before.before.before.before.before.put.auto.0)  -- same-length
+    (λ c κs. omega (arith, ap length (signed_none c.before.if-v-eq0.true), c.before.before.before.requires))  -- put-requires
+    (λ c κs. omega (arith, ap length (signed_none c.before.before.before.before.before.if-v-eq0.true), c.before.before.before.before.before.before.before.requires, c.before.before.before.put-to.ensures.0, c.before.before.before.put-to.auto.out))  -- put-requires-2
+    (λ c. c.before.before.put.auto.out ∙ c.before.before.before.before.before.before.put-to.auto.out)  -- same-length
     (λ c.
     let s = c.before.before.before.before.before.before.before.before.before.before in
-    rw (signed_none c.before.before.before.before.before.before.before.before.if1.true) (both s.args.out.now s.args.at (45 ∷ []) (49 ∷ []) c.before.before.before.before.before.before.put.ensures c.before.before.put2.ensures))  -- returns
+    rw (signed_none c.before.before.before.before.before.before.before.before.if-v-eq0.true) (both s.args.out.now s.args.at (45 ∷ []) (49 ∷ []) c.before.before.before.before.before.before.put-to.ensures c.before.before.put.ensures))  -- returns
     (λ c. search rules)  -- add-put
-    (λ c. omega (arith, c.before.if2.true))  -- cast-put
-    (λ c κs. omega (arith, ap length (signed_digit c.before.before.if1.false c.before.if2.true), c.before.before.before.before.requires))  -- put-requires-3
-    (λ c. c.before.before.put3.auto.0)  -- same-length-2
-    (λ c. rw (signed_digit c.before.before.before.before.before.if1.false c.before.before.before.before.if2.true) c.before.before.put3.ensures)  -- returns-2
+    (λ c. omega (arith, c.before.if-v-lt11.true))  -- cast-put
+    (λ c κs. omega (arith, ap length (signed_digit c.before.before.if-v-eq0.false c.before.if-v-lt11.true), c.before.before.before.before.requires))  -- put-requires-3
+    (λ c. c.before.before.put-then-v-lt11.auto.out)  -- same-length-2
+    (λ c. rw (signed_digit c.before.before.before.before.before.if-v-eq0.false c.before.before.before.before.if-v-lt11.true) c.before.before.put-then-v-lt11.ensures)  -- returns-2
     (λ c. search rules)  -- sub-put-two
     (λ c κs. (
-      omega (arith, c.before.before.if2.false),
-      omega (arith, c.before.if3.true),
-      rw (signed_some c.before.before.before.if1.false) at c.before.before.before.before.before.requires,
+      omega (arith, c.before.before.if-v-lt11.false),
+      omega (arith, c.before.if-v-lt101.true),
+      rw (signed_some c.before.before.before.if-v-eq0.false) at c.before.before.before.before.before.requires,
     ))  -- put-two-requires
-    (λ c. c.before.before.put_two.auto.0)  -- same-length-3
-    (λ c. rw (signed_some c.before.before.before.before.before.before.if1.false) c.before.before.put_two.ensures)  -- returns-3
+    (λ c. c.before.before.put_two.auto.out)  -- same-length-3
+    (λ c. rw (signed_some c.before.before.before.before.before.before.if-v-eq0.false) c.before.before.put_two.ensures)  -- returns-3
     (λ c. search rules)  -- sub-put-decimal
-    (λ c κs. rw (signed_some c.before.before.before.if1.false) at c.before.before.before.before.before.requires)  -- put-decimal-requires
+    (λ c κs. rw (signed_some c.before.before.before.if-v-eq0.false) at c.before.before.before.before.before.requires)  -- put-decimal-requires
     (λ c. search rules)  -- same-length-4
-    (λ c. rw (signed_some c.before.before.before.before.before.before.if1.false) c.before.before.put-decimal.ensures))  -- returns-4
+    (λ c. rw (signed_some c.before.before.before.before.before.before.if-v-eq0.false) c.before.before.put_decimal.ensures))  -- returns-4

@@ -11,8 +11,8 @@ use Rattle.listing.proofs.Left.{both}
 use Rattle.listing.proofs.put_two.Statement.{statement}
 use Rattle.listing.proofs.put_two.Tie as tie
 
-pub put-two-spec : {M : Type 1} → statement M
-put-two-spec =
+pub put_two_spec : {M : Type 1} → statement M
+put_two_spec =
     tie.close
     (tie.spec
     (λ c. omega (arith, div-le_self c.before.before.args.v 10, c.before.before.requires.1))  -- add-put
@@ -24,11 +24,11 @@ put-two-spec =
     (λ c. omega (arith, mod-lt c.before.before.before.before.before.before.args.v {m = 10} (lit< tt)))  -- cast-put-2
     (λ c κs.
     let s = c.before.before.before.before.before.before in
-    let p = c.before.before.before.put in
-    omega (arith, ap length (decimal_two s.requires.0 s.requires.1), s.requires.2, p.ensures.0, p.auto.0))  -- put-requires-2
-    (λ c. c.before.before.put2.auto.0 ∙ c.before.before.before.before.before.before.put.auto.0)  -- same-length
+    let p = c.before.before.before.put-to in
+    omega (arith, ap length (decimal_two s.requires.0 s.requires.1), s.requires.2, p.ensures.0, p.auto.out))  -- put-requires-2
+    (λ c. c.before.before.put.auto.out ∙ c.before.before.before.before.before.before.put-to.auto.out)  -- same-length
     (λ c.
     let s = c.before.before.before.before.before.before.before.before.before in
     let v = s.args.v in
     rw (decimal_two s.requires.0 s.requires.1)
-    (both s.args.out.now s.args.at ((48 + v / 10) ∷ []) ((48 + v % 10) ∷ []) c.before.before.before.before.before.before.put.ensures c.before.before.put2.ensures)))  -- returns
+    (both s.args.out.now s.args.at ((48 + v / 10) ∷ []) ((48 + v % 10) ∷ []) c.before.before.before.before.before.before.put-to.ensures c.before.before.put.ensures)))  -- returns

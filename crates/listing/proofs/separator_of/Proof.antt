@@ -4,8 +4,8 @@ use Rattle.listing.proofs.Tests.{tests}
 use Rattle.listing.proofs.separator_of.Statement.{statement}
 use Rattle.listing.proofs.separator_of.Tie as tie
 
-pub separator-of-spec : {M : Type 1} → statement M
-separator-of-spec =
+pub separator_of_spec : {M : Type 1} → statement M
+separator_of_spec =
     tie.close
     (tie.spec
     (λ c. search (tests, rules))  -- returns

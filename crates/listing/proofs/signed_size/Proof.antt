@@ -7,11 +7,11 @@ use Rattle.listing.proofs.Decimals.{signed_none, signed_some}
 use Rattle.listing.proofs.signed_size.Statement.{statement}
 use Rattle.listing.proofs.signed_size.Tie as tie
 
-pub signed-size-spec : {M : Type 1} → statement M
-signed-size-spec =
+pub signed_size_spec : {M : Type 1} → statement M
+signed_size_spec =
     tie.close
     (tie.spec
-    (λ c. (sym (ap length (signed_none c.if1.true)), lit≤ tt))  -- returns
+    (λ c. (sym (ap length (signed_none c.if-v-eq0.true)), lit≤ tt))  -- returns
     (λ c. search rules)  -- sub-decimal-size
     (λ c κs. search rules)  -- decimal-size-requires
-    (λ c. (c.decimal-size.ensures.0 ∙ sym (ap length (signed_some c.before.if1.false)), c.decimal-size.ensures.1)))  -- returns-2
+    (λ c. (c.decimal_size.ensures.0 ∙ sym (ap length (signed_some c.before.if-v-eq0.false)), c.decimal_size.ensures.1)))  -- returns-2

@@ -3,7 +3,7 @@
 use Rattle.std.specs.Prelude.{Bool, ◌&&◌, cond, List, [], ◌∷◌, ℕ, zero, suc, ◌+◌, ◌-◌, ◌*◌, ◌/◌, ◌%◌, ◌^◌, min, eqb, ltb, length, get_or, drop}
 use Rattle.std.proofs.Math.ListN as list
 use Rattle.tables.specs.Tables.{vq_bits, gaq_bits}
-use Rattle.aht.specs.Walk.{Walk, Outcome, done, refuse, reached, refused, number, ◌>>=◌, ◌>>◌, take, pass, refuse_if, times, run, gain-above-26, hebap-above-19, bins-past-the-array}
+use Rattle.aht.specs.Walk.{Walk, Outcome, done, refuse, reached, refused, number, ◌>>=◌, ◌>>◌, take, pass, refuse_if, times, run, gain_above_26, hebap_above_19, bins_past_the_array}
 use Rattle.aht.specs.declared.Walked.{Walked}
 
 -- ---- E.2.4.2: gains, in the order of the active bins
@@ -37,7 +37,7 @@ unfoldable pub composites : (n : ℕ) → Walk (List ℕ)
 composites zero = done []
 composites (suc n) = do
   word ← take 5
-  refuse_if (ltb 26 word) gain-above-26
+  refuse_if (ltb 26 word) gain_above_26
   rest ← composites n
   done (2 ^ (word / 9) ∷ 2 ^ (word % 9 / 3) ∷ 2 ^ (word % 3) ∷ rest)
 
@@ -73,7 +73,7 @@ unfoldable pub bin : (gain hebap tags : ℕ) → Walk ℕ
 bin gain hebap tags =
     cond (eqb hebap 0) (done tags)
     (cond (ltb hebap 8) (pass (vq_bits hebap) tags)
-    (cond (ltb 19 hebap) (refuse hebap-above-19)
+    (cond (ltb 19 hebap) (refuse hebap_above_19)
     (times 6 (mantissa gain (gaq_bits (hebap - 8))) tags)))
 
 -- an active bin takes the next gain; any other has gain 1, and so has each where no gains are sent
@@ -94,7 +94,7 @@ range hebap first past = list.take (past - first) (drop first hebap)
 
 unfoldable pub aht : (hebap : List ℕ) → (first past : ℕ) → Walk ℕ
 aht hebap first past = do
-  refuse_if (ltb (length hebap) past) bins-past-the-array
+  refuse_if (ltb (length hebap) past) bins_past_the_array
   let hs = range hebap first past
   gaqmod ← take 2
   words ← gains gaqmod (active_bins gaqmod hs)

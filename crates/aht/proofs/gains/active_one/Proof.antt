@@ -4,10 +4,10 @@ use borrow.Author.Rules.{rules}
 use Rattle.aht.proofs.gains.active_one.Statement.{statement}
 use Rattle.aht.proofs.gains.active_one.Tie as tie
 
-pub active-one-spec : {M : Type 1} → statement M
-active-one-spec =
+pub active_one_spec : {M : Type 1} → statement M
+active_one_spec =
     tie.close
     (tie.spec
     (λ c κs. search rules)
-    (λ c. rw (sym c.before.is-active.ensures ∙ c.if1.true))
-    (λ c. rw (sym c.before.is-active.ensures ∙ c.if1.false)))
+    (λ c. rw (sym c.before.is_active.ensures ∙ c.if-is_active.true))
+    (λ c. rw (sym c.before.is_active.ensures ∙ c.if-is_active.false)))

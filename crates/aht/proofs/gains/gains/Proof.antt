@@ -9,26 +9,26 @@ use Rattle.aht.proofs.GainWords.{single_mode, composite_mode}
 use Rattle.aht.proofs.gains.gains.Statement.{statement}
 use Rattle.aht.proofs.gains.gains.Tie as tie
 
-none_sent : tie.Need-returns
+none_sent : tie.Need-returns-then-gaqmod-eq0
 unfolding run standard.gains
-none_sent c = rw c.if1.true
+none_sent c = rw c.if-gaqmod-eq0.true
 
-singles : tie.Need-returns-2
+singles : tie.Need-returns-then-gaqmod-lt3
 singles c =
     let t = c.before.before in
     let s = t.before.before in
     let a = s.args in
-    (c.skip.ensures a.s.now).same ∙ sym (single_mode a.s.now a.limit a.gaqmod a.active a.at t.if1.false c.before.if2.true s.requires)
+    (c.skip.ensures a.s.now).same ∙ sym (single_mode a.s.now a.limit a.gaqmod a.active a.at t.if-gaqmod-eq0.false c.before.if-gaqmod-lt3.true s.requires)
 
-composites : tie.Need-returns-3
+composites : tie.Need-returns
 composites c =
     let s = c.before.before.before.before in
     let n = s.args.active in
     let sections : (n + 2) / 3 ≡ n / 3 + (n % 3 + 2) / 3 = omega arith in
     rw (composite_mode s.args.gaqmod n (omega arith), sections) c.composites.ensures
 
-pub gains-spec : {M : Type 1} → statement M
-gains-spec =
+pub gains_spec : {M : Type 1} → statement M
+gains_spec =
     tie.close
     (tie.spec
     none_sent

@@ -3,10 +3,10 @@ use borrow.Author.Tests.{lt-ltb, le-ltb}
 use Rattle.aht.proofs.gains.is_active.Statement.{statement}
 use Rattle.aht.proofs.gains.is_active.Tie as tie
 
-pub is-active-spec : {M : Type 1} → statement M
-is-active-spec =
+pub is_active_spec : {M : Type 1} → statement M
+is_active_spec =
     tie.close
     (tie.spec
-    (λ c. rw (le-ltb 7 _ c.if1.true))
-    (λ c. rw (lt-ltb 7 _ c.before.if1.false, lt-ltb _ 2 c.if2.true))
-    (λ c. rw (lt-ltb 7 _ c.before.if1.false, le-ltb _ 2 c.if2.false)))
+    (λ c. rw (le-ltb 7 _ c.if-hebap-le7.true))
+    (λ c. rw (lt-ltb 7 _ c.before.if-hebap-le7.false, lt-ltb _ 2 c.if-gaqmod-lt2.true))
+    (λ c. rw (lt-ltb 7 _ c.before.if-hebap-le7.false, le-ltb _ 2 c.if-gaqmod-lt2.false)))

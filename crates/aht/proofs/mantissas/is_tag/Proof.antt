@@ -6,5 +6,5 @@ use Rattle.bits.proofs.Window.{power}
 use Rattle.aht.proofs.mantissas.is_tag.Statement.{statement}
 use Rattle.aht.proofs.mantissas.is_tag.Tie as tie
 
-pub is-tag-spec : {M : Type 1} → statement M
-is-tag-spec = tie.close (tie.spec (λ c. search rules) (λ c. search rules) (λ c. search rules) (λ c. rw (power (c.args.width - 1) (omega arith))))
+pub is_tag_spec : {M : Type 1} → statement M
+is_tag_spec = tie.close (tie.spec (λ c. search rules) (λ c. search rules) (λ c. search rules) (λ c. rw (power (c.args.width - 1) (omega arith))))

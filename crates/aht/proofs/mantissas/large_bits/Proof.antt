@@ -4,5 +4,5 @@ use borrow.Author.Tests.{eq-eqb, ne_eqb}
 use Rattle.aht.proofs.mantissas.large_bits.Statement.{statement}
 use Rattle.aht.proofs.mantissas.large_bits.Tie as tie
 
-pub large-bits-spec : {M : Type 1} → statement M
-large-bits-spec = tie.close (tie.spec (λ c. search rules) (λ c. rw (eq-eqb _ 2 c.if1.true)) (λ c. rw (ne_eqb _ 2 c.if1.false)))
+pub large_bits_spec : {M : Type 1} → statement M
+large_bits_spec = tie.close (tie.spec (λ c. search rules) (λ c. rw (eq-eqb _ 2 c.if-gain-eq2.true)) (λ c. rw (ne_eqb _ 2 c.if-gain-eq2.false)))

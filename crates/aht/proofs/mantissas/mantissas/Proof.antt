@@ -9,50 +9,50 @@ use Rattle.aht.proofs.Walking.{goes, stops, stands}
 use Rattle.aht.proofs.mantissas.mantissas.Statement.{statement}
 use Rattle.aht.proofs.mantissas.mantissas.Tie as tie
 
-abbrev invariant-loop : tie.invariant-loop
-invariant-loop s limit at tags gain m walk₀ -blk₀ walk -blk =
-    (answer (run (times (6 - -blk) (mantissa gain m) walk.tags) s limit walk.end) ≡ answer (run (times 6 (mantissa gain m) tags) s limit at))
-    × (walk.refusal ≡ 0) × (walk.tags ≤ walk.end) × (-blk ≤ 6)
+abbrev invariant-loop-blk : tie.invariant-loop-blk
+invariant-loop-blk s limit at tags gain m walk₀ _blk₀ walk _blk =
+    (answer (run (times (6 - _blk) (mantissa gain m) walk.tags) s limit walk.end) ≡ answer (run (times 6 (mantissa gain m) tags) s limit at))
+    × (walk.refusal ≡ 0) × (walk.tags ≤ walk.end) × (_blk ≤ 6)
 
-abbrev decreases-loop : tie.decreases-loop
-decreases-loop s limit at tags gain m walk₀ -blk₀ walk -blk = 6 - -blk
+abbrev decreases-loop-blk : tie.decreases-loop-blk
+decreases-loop-blk s limit at tags gain m walk₀ _blk₀ walk _blk = 6 - _blk
 
 -- one mantissa, and then those of the other blocks
-module _ (c : tie.After-mantissa invariant-loop decreases-loop) where
-  abbrev turn : tie.At-loop invariant-loop decreases-loop
+module _ (c : tie.After-mantissa-walk invariant-loop-blk decreases-loop-blk) where
+  abbrev turn : tie.At-loop-blk invariant-loop-blk decreases-loop-blk
   turn = c.before.before
 
-  abbrev begin : tie.Start invariant-loop decreases-loop
+  abbrev begin : tie.Start invariant-loop-blk decreases-loop-blk
   begin = turn.before.before
 
-  one : answer (run (mantissa begin.args.gain begin.args.m turn.loop.walk.tags >>= times (6 - (turn.loop.-blk + 1)) (mantissa begin.args.gain begin.args.m)) begin.args.s.now begin.args.limit turn.loop.walk.end)
+  one : answer (run (mantissa begin.args.gain begin.args.m turn.loop-blk.walk.tags >>= times (6 - (turn.loop-blk._blk + 1)) (mantissa begin.args.gain begin.args.m)) begin.args.s.now begin.args.limit turn.loop-blk.walk.end)
       ≡ answer (run (times 6 (mantissa begin.args.gain begin.args.m) begin.args.tags) begin.args.s.now begin.args.limit begin.args.at)
   unfolding times
-  one = let left : 6 - turn.loop.-blk ≡ suc (6 - (turn.loop.-blk + 1)) = omega arith in rw left at turn.loop.inv.0
+  one = let left : 6 - turn.loop-blk._blk ≡ suc (6 - (turn.loop-blk._blk + 1)) = omega arith in rw left at turn.loop-blk.invariant.0
 
-stopped : tie.Need-returns invariant-loop decreases-loop
+stopped : tie.Need-returns-then-walk-ne0 invariant-loop-blk decreases-loop-blk
 stopped c =
     let t = c.before.before in
-    record { same = sym (stops _ _ _ _ _ t.mantissa.ensures.same c.if1.true) ∙ one t; few = t.mantissa.ensures.few }
+    record { same = sym (stops _ _ _ _ _ t.mantissa-walk.ensures.same c.if-walk-ne0.true) ∙ one t; few = t.mantissa-walk.ensures.few }
 
-again : tie.Need-loop-preserved invariant-loop decreases-loop
+again : tie.Need-loop-blk-preserved invariant-loop-blk decreases-loop-blk
 again c =
     let t = c.before.before in
-    (sym (goes _ _ _ _ _ t.mantissa.ensures.same c.if1.false) ∙ one t, c.if1.false, t.mantissa.ensures.few, omega arith)
+    (sym (goes _ _ _ _ _ t.mantissa-walk.ensures.same c.if-walk-ne0.false) ∙ one t, c.if-walk-ne0.false, t.mantissa-walk.ensures.few, omega arith)
 
-finished : tie.Need-returns-2 invariant-loop decreases-loop
+finished : tie.Need-returns invariant-loop-blk decreases-loop-blk
 unfolding times run
 finished c =
-    let at = c.before.loop in
-    let none : 6 - at.-blk ≡ 0 = omega arith in
+    let at = c.before.loop-blk in
+    let none : 6 - at._blk ≡ 0 = omega arith in
     record { same = stands at.walk at.invariant.1 ∙ (rw none at at.invariant.0); few = at.invariant.2 }
 
-pub mantissas-spec : {M : Type 1} → statement M
-mantissas-spec =
+pub mantissas_spec : {M : Type 1} → statement M
+mantissas_spec =
     tie.close
     (tie.spec
-    invariant-loop
-    decreases-loop
+    invariant-loop-blk
+    decreases-loop-blk
     (λ c. (refl, refl, omega arith, omega arith))  -- loop_holds
     (λ c κs. search rules)  -- mantissa-requires
     stopped

@@ -6,11 +6,11 @@ use borrow.Author.Tests.{eq-eqb, ne_eqb}
 use Rattle.aht.proofs.mantissas.small_bits.Statement.{statement}
 use Rattle.aht.proofs.mantissas.small_bits.Tie as tie
 
-pub small-bits-spec : {M : Type 1} → statement M
-small-bits-spec =
+pub small_bits_spec : {M : Type 1} → statement M
+small_bits_spec =
     tie.close
     (tie.spec
     (λ c. search rules)
     (λ c. search rules)
-    (λ c. rw (eq-eqb _ 2 c.if1.true) (refl, omega arith, omega arith))
-    (λ c. rw (ne_eqb _ 2 c.if1.false) (refl, omega arith, omega arith)))
+    (λ c. rw (eq-eqb _ 2 c.if-gain-eq2.true) (refl, omega arith, omega arith))
+    (λ c. rw (ne_eqb _ 2 c.if-gain-eq2.false) (refl, omega arith, omega arith)))

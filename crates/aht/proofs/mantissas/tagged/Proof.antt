@@ -5,7 +5,7 @@ use Prim.Native.Nat.{◌+◌, ◌≤◌}
 use native.Mathlib.Omega.{arith}
 use lib.Dec.{leb}
 use borrow.Author.Rules.{rules}
-use borrow.Author.Tests.{not-true, not-false, leb-true}
+use borrow.Author.Tests.{leb-true}
 use Rattle.bits.specs.Bits.{value}
 use Rattle.bits.proofs.Window.{whole}
 use Rattle.aht.specs.Aht.{answer, is_tag}
@@ -13,54 +13,54 @@ use Rattle.aht.proofs.Tags.{mantissa_past, mantissa_tag, mantissa_small}
 use Rattle.aht.proofs.mantissas.tagged.Statement.{statement}
 use Rattle.aht.proofs.mantissas.tagged.Tie as tie
 
-module _ (c : tie.After-is-tag) where
+module _ (c : tie.After-is_tag) where
   abbrev begin : tie.Start
   begin = c.before.before.before.before.before.before
 
-  abbrev small : tie.After-small-bits
+  abbrev small : tie.After-small_bits-small
   small = c.before.before.before.before
 
-  fits : leb (begin.args.at + small.small-bits.result) begin.args.limit ≡ true
-  fits = sym c.before.before.before.fits2.ensures ∙ not-false _ c.before.before.if1.false
+  fits : leb (begin.args.at + small.small_bits-small.result) begin.args.limit ≡ true
+  fits = sym c.before.before.before.fits.ensures ∙ c.before.before.if-not-fits.false
 
-  bound : begin.args.at + small.small-bits.result ≤ begin.args.limit
-  bound = leb-true (begin.args.at + small.small-bits.result) begin.args.limit fits
+  bound : begin.args.at + small.small_bits-small.result ≤ begin.args.limit
+  bound = leb-true (begin.args.at + small.small_bits-small.result) begin.args.limit fits
 
   -- what was tested is the value of the bits
-  tag : c.is-tag.result ≡ is_tag small.small-bits.result (value begin.args.s.now begin.args.at small.small-bits.result)
-  tag = c.is-tag.ensures ∙ ap (is_tag small.small-bits.result) (c.before.get.ensures ∙ whole begin.args.s.now begin.args.at small.small-bits.result small.small-bits.ensures.2)
+  tag : c.is_tag.result ≡ is_tag small.small_bits-small.result (value begin.args.s.now begin.args.at small.small_bits-small.result)
+  tag = c.is_tag.ensures ∙ ap (is_tag small.small_bits-small.result) (c.before.get.ensures ∙ whole begin.args.s.now begin.args.at small.small_bits-small.result small.small_bits-small.ensures.2)
 
-past : tie.Need-returns
+past : tie.Need-returns-then-not-fits
 past c =
     let f = c.before.before in
     let s = f.before.before.before in
     let a = s.args in
-    let end : leb (a.at + f.before.small-bits.result) a.limit ≡ false = sym f.fits2.ensures ∙ not-true _ c.before.if1.true in
-    rw c.refused.ensures (record { same = ap answer (sym (mantissa_past a.s.now a.limit a.at a.gain a.m a.tags s.requires.3 f.before.small-bits.ensures.0 end)); few = omega arith })
+    let end : leb (a.at + f.before.small_bits-small.result) a.limit ≡ false = sym f.fits.ensures ∙ c.before.if-not-fits.true in
+    rw c.refused.ensures (record { same = ap answer (sym (mantissa_past a.s.now a.limit a.at a.gain a.m a.tags s.requires.3 f.before.small_bits-small.ensures.0 end)); few = omega arith })
 
-large : tie.Need-returns-2
+large : tie.Need-returns-then-is_tag
 large c =
     let t = c.before.before.before in
     let a = (begin t).args in
     let after = c.skip.ensures a.s.now in
-    let tagged = sym (tag t) ∙ c.before.before.if2.true in
+    let tagged = sym (tag t) ∙ c.before.before.if-is_tag.true in
     record {
-      same = after.same ∙ rw c.before.large-bits.ensures (ap answer (sym (mantissa_tag a.s.now a.limit a.at a.gain a.m a.tags (begin t).requires.3 (small t).small-bits.ensures.0 (fits t) tagged)));
+      same = after.same ∙ rw c.before.large_bits.ensures (ap answer (sym (mantissa_tag a.s.now a.limit a.at a.gain a.m a.tags (begin t).requires.3 (small t).small_bits-small.ensures.0 (fits t) tagged)));
       few = after.few;
     }
 
-alone : tie.Need-returns-3
+alone : tie.Need-returns
 alone c =
     let t = c.before in
     let a = (begin t).args in
-    let untagged = sym (tag t) ∙ c.if2.false in
+    let untagged = sym (tag t) ∙ c.if-is_tag.false in
     record {
-      same = ap answer (sym (mantissa_small a.s.now a.limit a.at a.gain a.m a.tags (begin t).requires.3 (small t).small-bits.ensures.0 (fits t) untagged));
+      same = ap answer (sym (mantissa_small a.s.now a.limit a.at a.gain a.m a.tags (begin t).requires.3 (small t).small_bits-small.ensures.0 (fits t) untagged));
       few = omega arith;
     }
 
-pub tagged-spec : {M : Type 1} → statement M
-tagged-spec =
+pub tagged_spec : {M : Type 1} → statement M
+tagged_spec =
     tie.close
     (tie.spec
     (λ c κs. search rules)  -- small-bits-requires

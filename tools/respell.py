@@ -52,15 +52,15 @@ def declared(texts):
 
 # Lemmas and fields of records that would have a definition's name: where they stand, and what they are called.
 LEMMAS = [
-    ("ac3/proofs/", "in-turn", "in_turn_lem"),
-    ("ac3/specs/", "in-turn", "in_turn_lem"),
+    ("ac3/proofs/", "in-turn", "same_in_turn"),
+    ("ac3/specs/", "in-turn", "same_in_turn"),
     ("ac3/proofs/", "part-at", "part_at_lem"),
     ("ac3/proofs/", "has_part", "has_part_lem"),
     ("ac3/proofs/", "same_answer", "same_answer_lem"),
     ("bits/proofs/", "same_bits", "same_bits_lem"),
     ("edits/proofs/", "is_free", "is_free_lem"),
-    ("ferrysprig/specs/", "in-turn", "in_turn_lem"),
-    ("ferrysprig/proofs/", "in-turn", "in_turn_lem"),
+    ("ferrysprig/specs/", "in-turn", "same_in_turn"),
+    ("ferrysprig/proofs/", "in-turn", "same_in_turn"),
     ("fields/proofs/fill/", "field_at", "field_at_contract"),
     ("fields/proofs/rows_of/", "row_of", "row_of_contract"),
     ("index/proofs/", "no_fields", "no_fields_lem"),
@@ -71,6 +71,13 @@ LEMMAS = [
     ("salvage/", "no_fields", "lacks_fields"),
     ("salvage/", "no_output", "lacks_output"),
     ("salvage/", "no_entry", "lacks_entry"),
+    ("salvage/", "no-entry", "lacks_entry"),
+    ("index/", "no-entry", "lacks_entry"),
+    ("syntax/", "is-short", "is_too_short"),
+    ("ac3/", "no-summary", "without_summary"),
+    ("ferrysprig/", "no-summary", "without_summary"),
+    ("ac3/", "slot-bits", "bits_of_slots"),
+    ("ferrysprig/", "slot-bits", "bits_of_slots"),
 ]
 
 

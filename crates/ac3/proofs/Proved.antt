@@ -16,7 +16,7 @@ use Rattle.ac3.proofs.Promise.{promised, reaches, answers_demand3}
 use Rattle.ac3.proofs.Rooms.{spans_by_role, rooms_demand3}
 use Rattle.ac3.proofs.RowBound.{row_bound}
 use Rattle.ac3.proofs.Sent.{sent_is_each_had}
-use Rattle.ac3.proofs.SlotBits.{slot_bits_lem}
+use Rattle.ac3.proofs.SlotBits.{bits_of_slots}
 use Rattle.ac3.proofs.Unfitting.{what_did_not_fit}
 use Rattle.ac3.proofs.Useless.{none_useless}
 use Rattle.ac3.proofs.Values.{values_on_each_side}
@@ -34,7 +34,7 @@ proved =
       demand3_held = rooms_demand3;
       spans_by_role = spans_by_role;
       demand3_grammar = ac3_demand3;
-      slot_bits_lem = slot_bits_lem;
+      bits_of_slots = bits_of_slots;
       edit_freely = edit_freely;
       later_bytes = later_bytes;
       only_what_was_read = only_what_was_read syncframe;

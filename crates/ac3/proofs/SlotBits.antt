@@ -284,7 +284,7 @@ module _ (c : Call) (ok : Accepted c) where
       subst (λ s. Unused (nfchans s.header.acmod) s.header.lfeon (not (eqb s.tally.coupled 0)) (slots_of blk s.tally.bits)) (sym summary_is) (told.unused blk k)
 
 zeros : (c : Call) → ¬ Accepted c → (answer_to c).0.summary.tally.bits ≡ replicate slot_counts 0
-zeros c not-ok = ap (λ s. s.tally.bits) ((promised c refl).no_summary_lem not-ok)
+zeros c not-ok = ap (λ s. s.tally.bits) ((promised c refl).without_summary not-ok)
 
 forty_two : (c : Call) → length (answer_to c).0.summary.tally.bits ≡ slot_counts
 forty_two c = go (eqb (answer_to c).0.refusal 0) refl
@@ -293,5 +293,5 @@ forty_two c = go (eqb (answer_to c).0.refusal 0) refl
     go true e = let ok : Accepted c = eqb-true _ 0 e in ap (λ s. length s.tally.bits) (summary_is c ok) ∙ (told c ok).long
     go false e = ap length (zeros c (eqb-false _ 0 e))
 
-pub slot_bits_lem : SlotBits
-slot_bits_lem = record { sums = sums; unused = unused; long = forty_two; none = zeros }
+pub bits_of_slots : SlotBits
+bits_of_slots = record { sums = sums; unused = unused; long = forty_two; none = zeros }

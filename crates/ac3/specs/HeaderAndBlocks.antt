@@ -19,7 +19,7 @@ pub record HeaderAndBlocks : Type 0 where
   -- ---- both in turn
 
   -- the whole parse is both in turn, header refusals included
-  pub in_turn_lem : (c : Call) → answer_to c ≡ in_turn c
+  pub same_in_turn : (c : Call) → answer_to c ≡ in_turn c
   -- so demands 1 and 2 hold of both in turn, and what follows from them; and demand 3
   pub promised : (c : Call) → Promised c (in_turn c).0 (in_turn c).1
   pub within : (c : Call) → Within c (in_turn c).0 (in_turn c).1

@@ -67,7 +67,7 @@ pub record Promised (c : Call) (a : Answer) (after : List ℤ) : Type 0 where
   -- the summary: the definition's, with the row count and audio_end; all zeros on a refusal
   pub summary : (ok : Reaches c) → a.summary ≡ summary_of a.rows ok.answer
   pub audio_end : a.refusal ≡ 0 → a.summary.end ≡ a.bit
-  pub no_summary_lem : ¬ (a.refusal ≡ 0) → a.summary ≡ no_summary
+  pub without_summary : ¬ (a.refusal ≡ 0) → a.summary ≡ no_summary
 
 -- ---- demand 3, for what is accepted
 

@@ -53,7 +53,7 @@ pub record Proved : Type 1 where
   pub demand3_grammar : Demand3 syncframe
   -- Its mantissas rows, one to a block, are as wide as the seven counts of bits that the summary tells of the block sum to; slots that are not
   -- in use have 0, and so have all on a refusal.
-  pub slot_bits_lem : SlotBits
+  pub bits_of_slots : SlotBits
   -- ---- what may change, and what cannot
 
   -- New bits in the editable fields and in spans change those values, and nothing else.

@@ -204,7 +204,7 @@ ended_told h = refl
 
 in_turn_held_lem : (c : Call) → told (answer_to c) ≡ in_turn_held c
 unfolding in_turn in_turn_held header_numbers
-in_turn_held_lem c = ap told (header_and_blocks.in_turn_lem c) ∙ go (eqb (header_to c).0.refusal 0)
+in_turn_held_lem c = ap told (header_and_blocks.same_in_turn c) ∙ go (eqb (header_to c).0.refusal 0)
   where
     next : Call
     next = with_room (header_to c).1 c
@@ -233,7 +233,7 @@ few_afresh b c {x} e = subst Fits (sym (e ∙ afresh_is b c)) (go b)
 pub header_and_blocks_held : HeaderAndBlocksHeld
 header_and_blocks_held =
     record {
-      in_turn_lem = in_turn_held_lem;
+      same_in_turn = in_turn_held_lem;
       promised = in_turn_promised;
       takes = takes_own;
       taken = only_own;

@@ -23,7 +23,7 @@ use Rattle.ac3.specs.Unfitting.{unlimited}
 use Rattle.ac3.specs.Within.{Within}
 use Rattle.ac3.specs.declared.Answer.{Answer}
 use Rattle.ac3.proofs.Promise.{determined}
-use Rattle.ac3.proofs.SlotBits.{slot_bits_lem}
+use Rattle.ac3.proofs.SlotBits.{bits_of_slots}
 use Rattle.ac3.proofs.Unfitting.{what_did_not_fit}
 use Rattle.ferrysprig.specs.Numbers.{flag, in_order, summary_numbers, bits_in_order, bits_numbers, answer_numbers}
 use Rattle.ferrysprig.specs.Promise.{acmod_in, lfeon_in, couples_in, bits_in, TellsRow, PromisedNumbers}
@@ -55,7 +55,7 @@ flag_back false = refl
 
 -- so many are told of every call
 pub long_told : (c : Call) {x : Answer × List ℤ} → x ≡ answer_to c → length x.0.summary.tally.bits ≡ slot_counts
-long_told c e = subst (λ (x : Answer × List ℤ). length x.0.summary.tally.bits ≡ slot_counts) (sym e) (slot_bits_lem.long c)
+long_told c e = subst (λ (x : Answer × List ℤ). length x.0.summary.tally.bits ≡ slot_counts) (sym e) (bits_of_slots.long c)
 
 module _ (c : Call) (a : Answer) (after : List ℤ) (kept : Promised c a after) where
   is : answer_to c ≡ (a, after)
@@ -72,7 +72,7 @@ module _ (c : Call) (a : Answer) (after : List ℤ) (kept : Promised c a after) 
   told_sums : a.refusal ≡ 0 → mantissa_rows (length (listed c)) after ≡ block_sums (map natural (bits_in (answer_numbers a)))
   told_sums zero =
       ap (λ n. mantissa_rows n after) (sym kept.counted)
-      ∙ subst (λ (x : Answer × List ℤ). x.0.refusal ≡ 0 → mantissa_rows x.0.rows x.1 ≡ block_sums x.0.summary.tally.bits) is (slot_bits_lem.sums c) zero
+      ∙ subst (λ (x : Answer × List ℤ). x.0.refusal ≡ 0 → mantissa_rows x.0.rows x.1 ≡ block_sums x.0.summary.tally.bits) is (bits_of_slots.sums c) zero
       ∙ ap block_sums (sym told_bits)
 
   told_unused : a.refusal ≡ 0 → (blk : ℕ) → blk < 6
@@ -83,7 +83,7 @@ module _ (c : Call) (a : Answer) (after : List ℤ) (kept : Promised c a after) 
       subst (λ bits. Unused (nfchans s.header.acmod) (eqb (flag s.header.lfeon) 1) (not (eqb s.tally.coupled 0)) (slots_of blk bits)) (sym told_bits)
       (subst (λ b. Unused (nfchans s.header.acmod) b (not (eqb s.tally.coupled 0)) (slots_of blk s.tally.bits)) (sym (flag_back s.header.lfeon))
       (subst (λ (x : Answer × List ℤ). let t = x.0.summary in x.0.refusal ≡ 0
-      → Unused (nfchans t.header.acmod) t.header.lfeon (not (eqb t.tally.coupled 0)) (slots_of blk t.tally.bits)) is (λ ok. slot_bits_lem.unused c ok blk h) zero))
+      → Unused (nfchans t.header.acmod) t.header.lfeon (not (eqb t.tally.coupled 0)) (slots_of blk t.tally.bits)) is (λ ok. bits_of_slots.unused c ok blk h) zero))
 
 -- ---- all of them
 
@@ -103,9 +103,9 @@ of_answer c a after kept within =
       bit = ap pos kept.bit;
       tiles = λ e. rw (← kept.bit) (kept.tiles (same e));
       summary = λ ok. ap summary_numbers (kept.summary ok ∙ ap (λ n. summary_of n ok.answer) kept.counted);
-      no_summary_lem = λ h. ap summary_numbers (kept.no_summary_lem (λ z. h (ap pos z)));
+      without_summary = λ h. ap summary_numbers (kept.without_summary (λ z. h (ap pos z)));
       bits = λ ok. ap bits_numbers (kept.summary ok ∙ ap (λ n. summary_of n ok.answer) kept.counted);
-      no_bits = λ h. ap bits_numbers (kept.no_summary_lem (λ z. h (ap pos z)));
+      no_bits = λ h. ap bits_numbers (kept.without_summary (λ z. h (ap pos z)));
       sums = λ e. told_sums c a after kept (same e);
       unused = λ e. told_unused c a after kept (same e);
       fits = omega (arith, kept.counted, within.rows);

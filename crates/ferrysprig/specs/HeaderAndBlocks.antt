@@ -25,7 +25,7 @@ in_turn_held c =
 
 pub record HeaderAndBlocksHeld : Type 0 where
   -- the whole parse is both in turn, header refusals included; so all that is promised of it is so of both in turn
-  pub in_turn_lem : (c : Call) → told (answer_to c) ≡ in_turn_held c
+  pub same_in_turn : (c : Call) → told (answer_to c) ≡ in_turn_held c
   pub promised : (c : Call) → PromisedNumbers c (in_turn_held c).0 (in_turn_held c).1
   -- of all numbers that may be given the header's own ten are taken, if they are no refusal's, and no other are
   pub takes : (c : Call) → refusal_in (header_numbers (header_to c).0) ≡ pos 0 → ¬ (refusal_in (blocks_held c (header_numbers (header_to c).0)).0 ≡ pos 24)

@@ -76,7 +76,7 @@ pub record PromisedNumbers (c : Call) (ns after : List ℤ) : Type 0 where
   pub tiles : refusal_in ns ≡ pos 0 → Tiles 0 (listed c) (bit_of c)
   -- the summary is the definition's, or all zeros
   pub summary : (ok : Reaches c) → summary_in ns ≡ summary_numbers (summary_of (length (listed c)) ok.answer)
-  pub no_summary_lem : ¬ (refusal_in ns ≡ pos 0) → summary_in ns ≡ summary_numbers no_summary
+  pub without_summary : ¬ (refusal_in ns ≡ pos 0) → summary_in ns ≡ summary_numbers no_summary
   -- so are the mantissa bits, and in each block of an accepted frame the seven counts sum to the width of the mantissas row
   pub bits : (ok : Reaches c) → bits_in ns ≡ bits_numbers (summary_of (length (listed c)) ok.answer)
   pub no_bits : ¬ (refusal_in ns ≡ pos 0) → bits_in ns ≡ replicate slot_counts (pos 0)

@@ -36,7 +36,7 @@ module _ (capture : List ℕ) (place : ℕ) (room : List ℤ) where
     where
       go : (b : Bool) → eqb told.refusal 0 ≡ b → place + size ≤ length capture
       go true e = omega (arith, (accepted_framed c (eqb-true _ 0 e)).inside, length-drop place capture)
-      go false e = omega (arith, ap (λ s. s.header.bytes) ((promised c refl).no_summary_lem (eqb-false _ 0 e)))
+      go false e = omega (arith, ap (λ s. s.header.bytes) ((promised c refl).without_summary (eqb-false _ 0 e)))
 
   pub same_room : length (answer capture place room).1 ≡ length room
   same_room = (kept_within c told (answer capture place room).1 (promised c refl)).long

@@ -116,7 +116,7 @@ module _ (capture : List ℕ) (rooms : Rooms) (rows : List ℤ) where
     entered = s;
     numbered = ap is_number going;
     lacks_output = λ z. absurd (omega (arith, going));
-    no_entry_lem = λ z. absurd (omega (arith, going));
+    lacks_entry = λ z. absurd (omega (arith, going));
     lacks_fields = λ z. absurd (omega (arith, going));
   }
 
@@ -127,7 +127,7 @@ module _ (capture : List ℕ) (rooms : Rooms) (rows : List ℤ) where
       entered = refused no_output s;
       numbered = refl;
       lacks_output = λ _. (ok, small);
-      no_entry_lem = λ z. absurd (omega arith);
+      lacks_entry = λ z. absurd (omega arith);
       lacks_fields = λ z. absurd (omega arith);
     }
 
@@ -137,7 +137,7 @@ module _ (capture : List ℕ) (rooms : Rooms) (rows : List ℤ) where
       entered = refused no_entry s;
       numbered = refl;
       lacks_output = λ z. absurd (omega arith);
-      no_entry_lem = λ _. omega (arith, full, s.listed);
+      lacks_entry = λ _. omega (arith, full, s.listed);
       lacks_fields = λ z. absurd (omega arith);
     }
 
@@ -147,7 +147,7 @@ module _ (capture : List ℕ) (rooms : Rooms) (rows : List ℤ) where
       entered = refused no_fields s;
       numbered = refl;
       lacks_output = λ z. absurd (omega arith);
-      no_entry_lem = λ z. absurd (omega arith);
+      lacks_entry = λ z. absurd (omega arith);
       lacks_fields = λ _. seven;
     }
 

@@ -86,7 +86,7 @@ pub record Whole (capture : List ℕ) (rooms : Rooms) (rows : List ℤ) (k : Kep
   -- 35: the next bytes are a frame, for which too little of the output is left
   pub lacks_output : k.refusal ≡ no_output → ((answer_at capture rows reach).refusal ≡ 0) × (rooms.bytes < length k.output + size_at capture rows reach)
   -- 36: all entries are used
-  pub no_entry_lem : k.refusal ≡ no_entry → length k.entries ≡ rooms.entries
+  pub lacks_entry : k.refusal ≡ no_entry → length k.entries ≡ rooms.entries
   -- 37: the next bytes are a frame for which the field room is too short
   pub lacks_fields : k.refusal ≡ no_fields → (answer_at capture rows reach).refusal ≡ 7
 

@@ -78,7 +78,7 @@ StopsShort short (no x p) = T (short x.number)
 module _ {A : Type 0} (short : ℕ → Bool) (most : ℕ) (g : Grammar A) where
   pub record AppendingByNumber : Type 0 where
     -- refused with one of the numbers is too short, and the other way round
-    pub is_short_lem : (s : List ℕ) (m : ℕ) → EndsShort short (parse g s m).end → TooShort g s (start (length s) m)
+    pub is_too_short : (s : List ℕ) (m : ℕ) → EndsShort short (parse g s m).end → TooShort g s (start (length s) m)
     pub ends_short : (s : List ℕ) (m : ℕ) → TooShort g s (start (length s) m) → EndsShort short (parse g s m).end
     -- the others stay, as a list of rows and in place
     pub stays : (s more : List ℕ) (m : ℕ) → ¬ EndsShort short (parse g s m).end → parse g (s ++ more) m ≡ resized (length (s ++ more)) (parse g s m)

@@ -7,8 +7,8 @@ use Rattle.index.proofs.Begins.{afresh, no_such, refused_there, other_there, beh
 use Rattle.index.proofs.begin.Statement.{statement}
 use Rattle.index.proofs.begin.Tie as tie
 
-no_entry_lem : tie.Need-returns
-no_entry_lem c = (afresh _ _ _ _ c.if1.true, λ _. (omega arith, omega arith))
+lacks_entry : tie.Need-returns
+lacks_entry c = (afresh _ _ _ _ c.if1.true, λ _. (omega arith, omega arith))
 
 too_few : tie.Need-returns-2
 too_few c = (no_such _ _ _ _ c.before.if1.false c.if2.true, λ z. absurd (omega arith))
@@ -60,7 +60,7 @@ pub begin-spec : {M : Type 1} → statement M
 begin-spec =
     tie.close
     (tie.spec
-    no_entry_lem
+    lacks_entry
     too_few
     (λ c. search rules)  -- sub-last
     (λ c. search rules)  -- mul-place

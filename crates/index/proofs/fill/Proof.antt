@@ -24,7 +24,7 @@ too_short : tie.Need-returns-2 invariant-loop decreases-loop
 too_short c =
     let read = c.before.before.before.before in
     let test = read.before.before.before in
-    short _ _ _ _ _ test.before.loop.invariant test.loop-test.true read.before.parse.ensures.0 read.rows.given (sym c.before.is_short_lem.ensures ∙ c.if2.true)
+    short _ _ _ _ _ test.before.loop.invariant test.loop-test.true read.before.parse.ensures.0 read.rows.given (sym c.before.is_too_short.ensures ∙ c.if2.true)
 
 again : tie.Need-loop-preserved invariant-loop decreases-loop
 again c =
@@ -33,7 +33,7 @@ again c =
     let read = full.before.before in
     let test = read.before.before.before in
     on _ _ _ _ _ test.before.loop.invariant test.loop-test.true read.before.parse.ensures.0 read.rows.given
-    full.if1.false (sym judged.before.is_short_lem.ensures ∙ judged.if2.false) c.before.if3.true c.next_place.ensures.passed
+    full.if1.false (sym judged.before.is_too_short.ensures ∙ judged.if2.false) c.before.if3.true c.next_place.ensures.passed
 
 -- an entry is counted for each so many bytes, so the count fits
 one_more : tie.Need-overflow-add-done invariant-loop decreases-loop

@@ -1,14 +1,13 @@
 -- What holds of an entry of a list, or of what stands for one past the end, still holds after stores of what it holds of: so the bounds of
 -- arrays are kept. Assumes nothing.
 use Prim.Native.Nat.{ℕ, zero, suc, ◌+◌, ◌*◌, ◌<◌}
-use native.Mathlib.Nat.{add-zero, add-suc, suc-add}
 use native.Mathlib.Omega.{arith}
 use mathlib.Core.Path.{◌≡◌, sym, ◌∙◌}
 use mathlib.Core.List.{List, [], ◌∷◌, ◌++◌, append_assoc}
 use lib.Dec.{le→leb, lit<, lit≤}
 use lib.IntN.{ℤ, pos}
 use lib.Signed.{◌≤ℤ◌}
-use lib.ListN.{length, get_or, set, replicate, length-replicate}
+use lib.ListN.{get_or, set, replicate, length-replicate}
 use lib.Seq.{sets}
 use Rattle.naturals.proofs.Stored.{sets_append}
 use Rattle.slots.specs.Slots.{no_deltas}

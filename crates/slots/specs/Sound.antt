@@ -1,6 +1,6 @@
 -- What bounds the values that are carried from block to block: each fits the field that it was read from. No part of the definition: contracts
 -- cite it, so that the code's indexes and sums are in range.
-use Rattle.std.specs.Prelude.{List, [], ℕ, ◌+◌, ◌*◌, ◌<◌, ◌≤◌, ℤ, pos, get_or}
+use Rattle.std.specs.Prelude.{List, [], ℕ, ◌+◌, ◌*◌, ◌<◌, ◌≤◌, ℤ, get_or}
 use Rattle.alloc.specs.Sound.{Exponents}
 use Rattle.slots.specs.Slots.{no_deltas}
 use Rattle.slots.specs.declared.AllocState.{AllocState}

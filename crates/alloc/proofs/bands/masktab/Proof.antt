@@ -20,28 +20,28 @@ masktab_spec =
     (tie.spec
     (λ c.
     let bin = c.before.args.bin in
-    (answer bin bin (rw (lt-ltb bin 28 c.if-bin-lt28.true)), λ past. absurd (omega arith)))
+    (answer bin bin (rw (lt-ltb bin 28 (omega arith))), λ past. absurd (omega arith)))
     (λ c. search rules)
     (λ c.
     let bin = c.before.before.args.bin in
-    (answer bin (28 + (bin - 28) / 3) (rw (le-ltb bin 28 (omega arith), lt-ltb bin 49 c.if-bin-lt49.true)), λ past. absurd (omega arith)))
+    (answer bin (28 + (bin - 28) / 3) (rw (le-ltb bin 28 (omega arith), lt-ltb bin 49 (omega arith))), λ past. absurd (omega arith)))
     (λ c. search rules)
     (λ c.
     let bin = c.before.before.before.args.bin in (
-      answer bin (35 + (bin - 49) / 6) (rw (le-ltb bin 28 (omega arith), le-ltb bin 49 (omega arith), lt-ltb bin 85 c.if-bin-lt85.true)),
+      answer bin (35 + (bin - 49) / 6) (rw (le-ltb bin 28 (omega arith), le-ltb bin 49 (omega arith), lt-ltb bin 85 (omega arith))),
       λ past. absurd (omega arith),
     ))
     (λ c. search rules)
     (λ c.
     let bin = c.before.before.before.before.args.bin in (
       answer bin (41 + (bin - 85) / 12)
-          (rw (le-ltb bin 28 (omega arith), le-ltb bin 49 (omega arith), le-ltb bin 85 (omega arith), lt-ltb bin 133 c.if-bin-lt133.true)),
+          (rw (le-ltb bin 28 (omega arith), le-ltb bin 49 (omega arith), le-ltb bin 85 (omega arith), lt-ltb bin 133 (omega arith))),
       λ past. absurd (omega arith),
     ))
     (λ c. search rules)
     (λ c.
     let bin = c.before.before.before.before.args.bin in (
       answer bin (45 + (bin - 133) / 24)
-          (rw (le-ltb bin 28 (omega arith), le-ltb bin 49 (omega arith), le-ltb bin 85 (omega arith), le-ltb bin 133 c.if-bin-lt133.false)),
+          (rw (le-ltb bin 28 (omega arith), le-ltb bin 49 (omega arith), le-ltb bin 85 (omega arith), le-ltb bin 133 (omega arith))),
       λ past. refl,
     )))

@@ -12,15 +12,14 @@ use Rattle.packed.specs.declared.Group.{Group}
 use Rattle.packed.specs.declared.Group.TheVariants.{Going, Whole}
 use Rattle.packed.specs.declared.Place.{Place}
 use Rattle.packed.specs.declared.Place.TheVariants.{Count, Cell, Kind}
-use Rattle.packed.specs.declared.Packed.{Packed}
 use Rattle.packed.specs.declared.Packed.TheVariants.{At}
 use Rattle.packed.specs.declared.Spelt.{Spelt}
 use Rattle.packed.specs.Machine.{after, told}
-use Rattle.packed.specs.Moves.{Counted, Moves, StoredAt, left_after, rows_left, spot}
+use Rattle.packed.specs.Moves.{Moves, StoredAt, left_after, rows_left, spot}
 use Rattle.listing.specs.Number.{signed, separator}
-use Rattle.packed.specs.Packed.{group, grouping, reached, rows_on, say, spoken, step, tell, weight}
+use Rattle.packed.specs.Packed.{group, grouping, reached, rows_on, spoken, step, tell, weight}
 use Rattle.packed.proofs.PackedRead.{group_last}
-use Rattle.packed.proofs.Passes.{counted_none, counted_on, one_byte}
+use Rattle.packed.proofs.Passes.{one_byte}
 
 -- ---- one group
 

@@ -18,7 +18,7 @@ use Rattle.packed.specs.Machine.{after, told}
 use Rattle.listing.specs.Number.{groups, decimal, signed, separator}
 use Rattle.listing.specs.Listing.{Listing, Valid, Each, line, joined, word, text, grouped, kind, last_count}
 use Rattle.listing.specs.Listing as listing
-use Rattle.packed.specs.Text.{next, row_end, row_on, last_on, step, ended, yields, tell, verdict, count}
+use Rattle.packed.specs.Text.{next, row_end, row_on, last_on, step, ended, yields, tell, verdict}
 use Rattle.packed.specs.Exact.{TextRead}
 use Rattle.listing.proofs.Decimals.{decimal_small, decimal_large, signed_none, signed_some}
 use Rattle.packed.proofs.Runs.{Goes, ◌then◌, byte, stay, after_append}

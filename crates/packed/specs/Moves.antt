@@ -1,6 +1,6 @@
 -- How the code goes over a text, by one byte or by a whole number at a time. No part of the definition: it says what a turn of the code is to
 -- the definition's reader.
-use Rattle.std.specs.Prelude.{◌≡◌, cond, List, [], ◌∷◌, ◌++◌, ℕ, ◌+◌, ◌-◌, ◌≤◌, ◌<◌, min, eqb, length, drop, get_or}
+use Rattle.std.specs.Prelude.{◌≡◌, cond, List, [], ◌∷◌, ◌++◌, ℕ, ◌+◌, ◌-◌, ◌≤◌, ◌<◌, min, eqb, length, drop}
 use Rattle.listing.specs.Number.{signed, separator}
 use Rattle.packed.specs.declared.Part.{Part}
 use Rattle.packed.specs.declared.Part.TheVariants.{Fresh, Minus, Closed, Open}

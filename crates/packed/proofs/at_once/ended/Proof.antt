@@ -5,13 +5,13 @@ use borrow.Author.Rules.{rules}
 use Rattle.packed.proofs.at_once.ended.Statement.{statement}
 use Rattle.packed.proofs.at_once.ended.Tie as tie
 
-pub ended-spec : {M : Type 1} → statement M
-ended-spec =
+pub ended_spec : {M : Type 1} → statement M
+ended_spec =
     tie.close
     (tie.spec
     (λ c κs. search rules)  -- is-at-requires
-    (λ c. omega (arith, (c.before.is_at.ensures c.if1.true).0, c.before.before.before.ranges))  -- add
+    (λ c. omega (arith, (c.before.is_at.ensures c.if-is_at.true).0, c.before.before.before.ranges))  -- add
     (λ c _.
-    let e = c.before.is_at.ensures c.if1.true in
+    let e = c.before.is_at.ensures c.if-is_at.true in
     (refl, refl, e.0, e.1))  -- returns
     (λ c. search rules))  -- returns-2

@@ -4,9 +4,9 @@ use borrow.Author.Tests.{ltb-true}
 use Rattle.packed.proofs.at_once.is_digit.Statement.{statement}
 use Rattle.packed.proofs.at_once.is_digit.Tie as tie
 
-pub is-digit-spec : {M : Type 1} → statement M
-is-digit-spec =
+pub is_digit_spec : {M : Type 1} → statement M
+is_digit_spec =
     tie.close
     (tie.spec
     (λ c e. absurd (false≢true e))  -- returns
-    (λ c e. (c.if1.false, ltb-true _ _ e)))  -- returns-2
+    (λ c e. (c.if-b-lt48.false, ltb-true _ _ e)))  -- returns-2

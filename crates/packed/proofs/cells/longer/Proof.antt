@@ -5,8 +5,8 @@ use Rattle.packed.proofs.Stored.{stored_none, stored_two}
 use Rattle.packed.proofs.cells.longer.Statement.{statement}
 use Rattle.packed.proofs.cells.longer.Tie as tie
 
-pub longer-spec : {M : Type 1} → statement M
-longer-spec =
+pub longer_spec : {M : Type 1} → statement M
+longer_spec =
     tie.close
     (tie.spec
     (λ c. search rules)  -- sub-if1
@@ -22,6 +22,6 @@ longer-spec =
     (λ c. search rules)  -- add-t16
     (λ c.
     let s = c.before.before.before.before.before.before in
-    stored_two s.args.packed.now s.args.at (omega (arith, s.requires.0, c.before.before.before.before.if1.false)) s.requires.1 c.before.before.if2.false c.before.if3.true)  -- returns-3
+    stored_two s.args.packed.now s.args.at (omega (arith, s.requires.0, c.before.before.before.before.if-packed-at-lt2.false)) s.requires.1 c.before.before.if-b-eq0.false c.before.if-b-lt128.true)  -- returns-3
     (λ c κs. search rules)  -- several-requires
     (λ c. c.several.ensures))  -- returns-4

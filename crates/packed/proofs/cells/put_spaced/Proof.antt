@@ -17,50 +17,50 @@ use Rattle.packed.proofs.Stored.{spot_spaced}
 use Rattle.packed.proofs.cells.put_spaced.Statement.{statement}
 use Rattle.packed.proofs.cells.put_spaced.Tie as tie
 
-abbrev invariant-loop : tie.invariant-loop
-invariant-loop packed out₀ more at from left₀ to₀ i₀ out left to i =
+abbrev invariant-loop-left : tie.invariant-loop-left
+invariant-loop-left packed out₀ more at from left₀ to₀ i₀ out left to i =
     Left out to (told step tell (spot more left) (drop i packed)) (sets out₀ at (told step tell (spot more 8) (drop from packed))) (at + length (told step tell (spot more 8) (drop from packed))) (length out₀)
     × (i ≤ length packed)
     × (from ≤ i)
 
-abbrev decreases-loop : tie.decreases-loop
-decreases-loop packed out₀ more at from left₀ to₀ i₀ out left to i = left
+abbrev decreases-loop-left : tie.decreases-loop-left
+decreases-loop-left packed out₀ more at from left₀ to₀ i₀ out left to i = left
 
-pub put-spaced-spec : {M : Type 1} → statement M
-put-spaced-spec =
+pub put_spaced_spec : {M : Type 1} → statement M
+put_spaced_spec =
     tie.close
     (tie.spec
-    invariant-loop
-    decreases-loop
+    invariant-loop-left
+    decreases-loop-left
     (λ c.
     let s = c.before.before in
     (begin s.requires.0, s.requires.2, omega arith))  -- loop_holds
     (λ c κs. search rules)  -- number-at-requires
-    (λ c. c.before.before.before.before.loop.invariant.0.long)  -- same-length
+    (λ c. c.before.before.before.before.loop-left.invariant.0.long)  -- same-length
     (λ c.
-    let l = c.before.before.before.before.loop in
+    let l = c.before.before.before.before.loop-left in
     (l.invariant.0, l.invariant.1, refl, l.invariant.2))  -- returns
     (λ c κs.
-    let l = c.before.before.before.before.before.loop in
+    let l = c.before.before.before.before.before.loop-left in
     let s = c.before.before.before.before.before.before.before.before in
     let packed = s.args.packed.now in
-    let n = c.before.before.before.number_at in
+    let n = c.before.before.before.number_at-n in
     front_of step tell packed (spot s.args.more l.left) l.i (signed n.result.stored ++ (separator l.left ∷ [])) (spot s.args.more (l.left - 1)) n.result.end l.invariant.0
-    (spot_spaced packed s.args.more l.left l.i n.result s.requires.1 c.before.before.before.before.loop-test.true n.ensures c.before.if1.false))  -- put-ended-requires
-    (λ c. omega (arith, c.before.before.before.before.before.before.before.loop-test.true))  -- sub-left
-    (λ c. omega (arith, c.before.before.before.before.before.before.before.loop-test.true))  -- loop-less
+    (spot_spaced packed s.args.more l.left l.i n.result s.requires.1 c.before.before.before.before.loop-left-test.true n.ensures c.before.if-n-i.false))  -- put-ended-requires
+    (λ c. omega (arith, c.before.before.before.before.before.before.before.loop-left-test.true))  -- sub-left
+    (λ c. omega (arith, c.before.before.before.before.before.before.before.loop-left-test.true))  -- loop-less
     (λ c.
-    let l = c.before.before.before.before.before.before.before.before.loop in
+    let l = c.before.before.before.before.before.before.before.before.loop-left in
     let s = c.before.before.before.before.before.before.before.before.before.before.before in
     let packed = s.args.packed.now in
-    let n = c.before.before.before.before.before.before.number_at in
-    let h = c.before.before.before.before.if1.false in
-    let m = spot_spaced packed s.args.more l.left l.i n.result s.requires.1 c.before.before.before.before.before.before.before.loop-test.true n.ensures h in (
-      writing_on step tell packed (spot s.args.more l.left) l.i (signed n.result.stored ++ (separator l.left ∷ [])) (spot s.args.more (l.left - 1)) n.result.end l.invariant.0 m c.before.before.put_ended.ensures,
+    let n = c.before.before.before.before.before.before.number_at-n in
+    let h = c.before.before.before.before.if-n-i.false in
+    let m = spot_spaced packed s.args.more l.left l.i n.result s.requires.1 c.before.before.before.before.before.before.before.loop-left-test.true n.ensures h in (
+      writing_on step tell packed (spot s.args.more l.left) l.i (signed n.result.stored ++ (separator l.left ∷ [])) (spot s.args.more (l.left - 1)) n.result.end l.invariant.0 m c.before.before.put_ended-to.ensures,
       m.within,
       omega (arith, l.invariant.2, h),
     ))  -- loop_again
-    (λ c. c.before.loop.invariant.0.long)  -- same-length-2
+    (λ c. c.before.loop-left.invariant.0.long)  -- same-length-2
     (λ c.
-    let l = c.before.loop in
+    let l = c.before.loop-left in
     (l.invariant.0, l.invariant.1, refl, l.invariant.2)))  -- returns-2

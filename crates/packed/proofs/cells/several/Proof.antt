@@ -8,42 +8,42 @@ use Rattle.packed.proofs.Stored.{Running, group_goes, group_whole, running_ends,
 use Rattle.packed.proofs.cells.several.Statement.{statement}
 use Rattle.packed.proofs.cells.several.Tie as tie
 
-abbrev invariant-loop : tie.invariant-loop
-invariant-loop packed at n₀ k₀ i₀ n k i = Running packed at n k i
+abbrev invariant-loop-i : tie.invariant-loop-i
+invariant-loop-i packed at n₀ k₀ i₀ n k i = Running packed at n k i
 
-abbrev decreases-loop : tie.decreases-loop
-decreases-loop packed at n₀ k₀ i₀ n k i = length packed - i
+abbrev decreases-loop-i : tie.decreases-loop-i
+decreases-loop-i packed at n₀ k₀ i₀ n k i = length packed - i
 
-pub several-spec : {M : Type 1} → statement M
-several-spec =
+pub several_spec : {M : Type 1} → statement M
+several_spec =
     tie.close
     (tie.spec
-    invariant-loop
-    decreases-loop
+    invariant-loop-i
+    decreases-loop-i
     (λ c. running_none c.before.args.packed.now c.before.args.at)  -- loop_holds
     (λ c. search rules)  -- shared-slice-read-b
     (λ c. search rules)  -- cast-m
     (λ c κs. search rules)  -- weight-of-requires
-    (λ c. omega (arith, weighs_little (get_or c.before.before.before.before.before.args.packed.now c.before.before.before.loop.i 0) c.weight-of.ensures.1))  -- mul-m
-    (λ c. omega (arith, weighs_little (get_or c.before.before.before.before.before.args.packed.now c.before.before.before.loop.i 0) c.weight-of.ensures.1, c.before.before.before.loop.invariant.fits))  -- add-m
+    (λ c. omega (arith, weighs_little (get_or c.before.before.before.before.before.args.packed.now c.before.before.before.loop-i.i 0) c.weight_of.ensures.1))  -- mul-m
+    (λ c. omega (arith, weighs_little (get_or c.before.before.before.before.before.args.packed.now c.before.before.before.loop-i.i 0) c.weight_of.ensures.1, c.before.before.before.loop-i.invariant.fits))  -- add-m
     (λ c. stored_none _ _)  -- returns
     (λ c. stored_none _ _)  -- returns-2
     (λ c. search rules)  -- add-t14
     (λ c.
-    let l = c.before.before.before.before.before.before.loop in
+    let l = c.before.before.before.before.before.before.loop-i in
     let packed = c.before.before.before.before.before.before.before.before.args.packed.now in
     let b = get_or packed l.i 0 in
-    running_ends packed c.before.before.before.before.before.before.before.before.args.at l.invariant c.before.before.before.before.before.loop-test.true
-    (group_whole l.n l.k b (ap (λ (x : ℕ). l.n + b % 128 * x) c.before.before.before.weight-of.ensures.0) c.before.before.if1.false c.before.if2.false c.if3.true))  -- returns-3
+    running_ends packed c.before.before.before.before.before.before.before.before.args.at l.invariant c.before.before.before.before.before.loop-i-test.true
+    (group_whole l.n l.k b (ap (λ (x : ℕ). l.n + b % 128 * x) c.before.before.before.weight_of.ensures.0) c.before.before.if-m-gt2147483648.false c.before.if-b-eq0.false c.if-b-lt128.true))  -- returns-3
     (λ c κs. search rules)  -- one-more-requires
-    (λ c. omega (arith, c.before.before.before.before.before.before.loop-test.true))  -- add-i
-    (λ c. omega (arith, c.before.before.before.before.before.before.loop-test.true))  -- loop-less
+    (λ c. omega (arith, c.before.before.before.before.before.before.loop-i-test.true))  -- add-i
+    (λ c. omega (arith, c.before.before.before.before.before.before.loop-i-test.true))  -- loop-less
     (λ c.
-    let l = c.before.before.before.before.before.before.before.loop in
+    let l = c.before.before.before.before.before.before.before.loop-i in
     let packed = c.before.before.before.before.before.before.before.before.before.args.packed.now in
     let b = get_or packed l.i 0 in
-    rw c.one_more.ensures
-    (running_more packed c.before.before.before.before.before.before.before.before.before.args.at l.invariant c.before.before.before.before.before.before.loop-test.true
-    (group_goes l.n l.k b (ap (λ (x : ℕ). l.n + b % 128 * x) c.before.before.before.before.weight-of.ensures.0) c.before.before.before.if1.false c.before.if3.false)
-    c.before.before.before.if1.false))  -- loop_again
+    rw c.one_more-k.ensures
+    (running_more packed c.before.before.before.before.before.before.before.before.before.args.at l.invariant c.before.before.before.before.before.before.loop-i-test.true
+    (group_goes l.n l.k b (ap (λ (x : ℕ). l.n + b % 128 * x) c.before.before.before.before.weight_of.ensures.0) c.before.before.before.if-m-gt2147483648.false c.before.if-b-lt128.false)
+    c.before.before.before.if-m-gt2147483648.false))  -- loop_again
     (λ c. stored_none _ _))  -- returns-4

@@ -4,8 +4,8 @@ use Rattle.listing.proofs.Tests.{tests}
 use Rattle.packed.proofs.of_packed.cell_on.Statement.{statement}
 use Rattle.packed.proofs.of_packed.cell_on.Tie as tie
 
-pub cell-on-spec : {M : Type 1} → statement M
-cell-on-spec =
+pub cell_on_spec : {M : Type 1} → statement M
+cell_on_spec =
     tie.close
     (tie.spec
     (λ c κs. search rules)  -- rows-on-requires

@@ -4,8 +4,8 @@ use Rattle.listing.proofs.Tests.{tests}
 use Rattle.packed.proofs.of_packed.counted_on.Statement.{statement}
 use Rattle.packed.proofs.of_packed.counted_on.Tie as tie
 
-pub counted-on-spec : {M : Type 1} → statement M
-counted-on-spec =
+pub counted_on_spec : {M : Type 1} → statement M
+counted_on_spec =
     tie.close
     (tie.spec
     (λ c. search (tests, rules))  -- returns

@@ -4,8 +4,8 @@ use Rattle.listing.proofs.Tests.{tests}
 use Rattle.packed.proofs.of_packed.kind_on.Statement.{statement}
 use Rattle.packed.proofs.of_packed.kind_on.Tie as tie
 
-pub kind-on-spec : {M : Type 1} → statement M
-kind-on-spec =
+pub kind_on_spec : {M : Type 1} → statement M
+kind_on_spec =
     tie.close
     (tie.spec
     (λ c. search (tests, rules))  -- returns

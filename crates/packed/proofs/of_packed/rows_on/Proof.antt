@@ -4,8 +4,8 @@ use Rattle.listing.proofs.Tests.{tests}
 use Rattle.packed.proofs.of_packed.rows_on.Statement.{statement}
 use Rattle.packed.proofs.of_packed.rows_on.Tie as tie
 
-pub rows-on-spec : {M : Type 1} → statement M
-rows-on-spec =
+pub rows_on_spec : {M : Type 1} → statement M
+rows_on_spec =
     tie.close
     (tie.spec
     (λ c. search (tests, rules))  -- returns

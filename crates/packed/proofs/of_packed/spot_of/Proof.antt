@@ -4,8 +4,8 @@ use Rattle.listing.proofs.Tests.{tests}
 use Rattle.packed.proofs.of_packed.spot_of.Statement.{statement}
 use Rattle.packed.proofs.of_packed.spot_of.Tie as tie
 
-pub spot-of-spec : {M : Type 1} → statement M
-spot-of-spec =
+pub spot_of_spec : {M : Type 1} → statement M
+spot_of_spec =
     tie.close
     (tie.spec
     (λ c. search (tests, rules))  -- returns

@@ -4,8 +4,8 @@ use Rattle.listing.proofs.Tests.{tests}
 use Rattle.packed.proofs.of_packed.tail_on.Statement.{statement}
 use Rattle.packed.proofs.of_packed.tail_on.Tie as tie
 
-pub tail-on-spec : {M : Type 1} → statement M
-tail-on-spec =
+pub tail_on_spec : {M : Type 1} → statement M
+tail_on_spec =
     tie.close
     (tie.spec
     (λ c. search (tests, rules))  -- returns

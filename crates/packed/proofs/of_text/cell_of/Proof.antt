@@ -4,8 +4,8 @@ use Rattle.listing.proofs.Tests.{tests}
 use Rattle.packed.proofs.of_text.cell_of.Statement.{statement}
 use Rattle.packed.proofs.of_text.cell_of.Tie as tie
 
-pub cell-of-spec : {M : Type 1} → statement M
-cell-of-spec =
+pub cell_of_spec : {M : Type 1} → statement M
+cell_of_spec =
     tie.close
     (tie.spec
     (λ c. search (tests, rules))  -- returns

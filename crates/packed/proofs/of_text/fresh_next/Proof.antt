@@ -4,8 +4,8 @@ use Rattle.listing.proofs.Tests.{tests}
 use Rattle.packed.proofs.of_text.fresh_next.Statement.{statement}
 use Rattle.packed.proofs.of_text.fresh_next.Tie as tie
 
-pub fresh-next-spec : {M : Type 1} → statement M
-fresh-next-spec =
+pub fresh_next_spec : {M : Type 1} → statement M
+fresh_next_spec =
     tie.close
     (tie.spec
     (λ c. search (tests, rules))  -- returns

@@ -4,8 +4,8 @@ use Rattle.listing.proofs.Tests.{tests}
 use Rattle.packed.proofs.of_text.letter_on.Statement.{statement}
 use Rattle.packed.proofs.of_text.letter_on.Tie as tie
 
-pub letter-on-spec : {M : Type 1} → statement M
-letter-on-spec =
+pub letter_on_spec : {M : Type 1} → statement M
+letter_on_spec =
     tie.close
     (tie.spec
     (λ c. search (tests, rules))  -- returns

@@ -4,8 +4,8 @@ use Rattle.listing.proofs.Tests.{tests}
 use Rattle.packed.proofs.of_text.line_yield.Statement.{statement}
 use Rattle.packed.proofs.of_text.line_yield.Tie as tie
 
-pub line-yield-spec : {M : Type 1} → statement M
-line-yield-spec =
+pub line_yield_spec : {M : Type 1} → statement M
+line_yield_spec =
     tie.close
     (tie.spec
     (λ c. search (tests, rules))  -- returns

@@ -4,8 +4,8 @@ use Rattle.listing.proofs.Tests.{tests}
 use Rattle.packed.proofs.of_text.open_next.Statement.{statement}
 use Rattle.packed.proofs.of_text.open_next.Tie as tie
 
-pub open-next-spec : {M : Type 1} → statement M
-open-next-spec =
+pub open_next_spec : {M : Type 1} → statement M
+open_next_spec =
     tie.close
     (tie.spec
     (λ c. search rules)  -- add-t7

@@ -4,8 +4,8 @@ use Rattle.listing.proofs.Tests.{tests}
 use Rattle.packed.proofs.of_text.row_end.Statement.{statement}
 use Rattle.packed.proofs.of_text.row_end.Tie as tie
 
-pub row-end-spec : {M : Type 1} → statement M
-row-end-spec =
+pub row_end_spec : {M : Type 1} → statement M
+row_end_spec =
     tie.close
     (tie.spec
     (λ c. search rules)  -- add

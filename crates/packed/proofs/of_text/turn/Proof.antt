@@ -15,4 +15,4 @@ turn_spec =
     (λ c. search rules)  -- add
     (λ c.
     let s = c.before.before.before.before in
-    rw (c.before.step-on.ensures, c.yield-of.ensures) (one_byte step tell s.args.text.now s.args.s s.args.i s.requires)))  -- returns
+    rw (c.before.step_on.ensures, c.yield_of.ensures) (one_byte step tell s.args.text.now s.args.s s.args.i s.requires)))  -- returns

@@ -15,44 +15,44 @@ use Rattle.packed.proofs.Passes.{counted_none, counted_on}
 use Rattle.packed.proofs.rows.measure.Statement.{statement}
 use Rattle.packed.proofs.rows.measure.Tie as tie
 
-abbrev invariant-loop : tie.invariant-loop
-invariant-loop text room rows₀ size₀ i₀ rows size i = Counted step tell text room (Line 1) (cell rows 8) size i
+abbrev invariant-loop-rows : tie.invariant-loop-rows
+invariant-loop-rows text room rows₀ size₀ i₀ rows size i = Counted step tell text room (Line 1) (cell rows 8) size i
 
-abbrev decreases-loop : tie.decreases-loop
-decreases-loop text room rows₀ size₀ i₀ rows size i = length text - i
+abbrev decreases-loop-rows : tie.decreases-loop-rows
+decreases-loop-rows text room rows₀ size₀ i₀ rows size i = length text - i
 
-pub measure-spec : {M : Type 1} → statement M
-measure-spec =
+pub measure_spec : {M : Type 1} → statement M
+measure_spec =
     tie.close
     (tie.spec
-    invariant-loop
-    decreases-loop
+    invariant-loop-rows
+    decreases-loop-rows
     (λ c. counted_none step tell c.before.args.text.now c.before.args.room (Line 1))  -- loop_holds
-    (λ c κs. (c.before.before.before.requires, c.loop-test.true, c.before.loop.invariant))  -- spaced-size-requires
-    (λ c. c.before.before.spaced-size.ensures.0)  -- returns
-    (λ c κs. c.before.before.spaced-size.ensures.0.within)  -- short-at-requires
+    (λ c κs. (c.before.before.before.requires, c.loop-rows-test.true, c.before.loop-rows.invariant))  -- spaced-size-requires
+    (λ c. c.before.before.spaced_size-front.ensures.0)  -- returns
+    (λ c κs. c.before.before.spaced_size-front.ensures.0.within)  -- short-at-requires
     (λ c κs. search rules)  -- number-at-requires
-    (λ c. c.before.before.before.before.before.before.before.before.before.spaced-size.ensures.0)  -- returns-2
+    (λ c. c.before.before.before.before.before.before.before.before.before.spaced_size-front.ensures.0)  -- returns-2
     (λ c κs. search rules)  -- groups-size-requires
     (λ c κs.
     let s = c.before.before.before.before.before.before.before.before.before.before.before.before.before.before in
-    (s.requires, omega (arith, s.requires, c.before.before.before.before.before.before.before.before.before.before.spaced-size.ensures.0.most, c.groups-size.ensures, groups_few c.before.before.before.before.if2.n.stored)))  -- capped-requires
-    (λ c. omega (arith, c.before.before.before.before.before.before.before.before.before.before.before.before.loop-test.true))  -- add-rows
+    (s.requires, omega (arith, s.requires, c.before.before.before.before.before.before.before.before.before.before.spaced_size-front.ensures.0.most, c.groups_size.ensures, groups_few c.before.before.before.before.if-n-front.n.stored)))  -- capped-requires
+    (λ c. omega (arith, c.before.before.before.before.before.before.before.before.before.before.before.before.loop-rows-test.true))  -- add-rows
     (λ c.
-    let p = c.before.before.before.before.before.before.before.before.before.before.before.spaced-size in
+    let p = c.before.before.before.before.before.before.before.before.before.before.before.spaced_size-front in
     let text = c.before.before.before.before.before.before.before.before.before.before.before.before.before.before.before.args.text.now in
-    let n = c.before.before.before.before.before.if2.n in
-    let h = c.before.before.if3.false in
-    let f : SpeltAt text p.result.end 10 n = ⊎_elim (λ w. spelt_same text p.result.end 10 w.2 w.1.ensures) (λ w. spelt_same text p.result.end 10 w.1 c.before.before.before.before.before.before.before.before.short-at.ensures) c.before.before.before.before.before.if2.branch in
+    let n = c.before.before.before.before.before.if-n-front.n in
+    let h = c.before.before.if-n-front-2.false in
+    let f : SpeltAt text p.result.end 10 n = ⊎_elim (λ w. spelt_same text p.result.end 10 w.n-is w.number_at-n.ensures) (λ w. spelt_same text p.result.end 10 w.n-is c.before.before.before.before.before.before.before.before.short_at-n.ensures) c.before.before.before.before.before.if-n-front.branch-raw in
     omega (arith, p.ensures.2, h, (f h).1))  -- loop-less
     (λ c.
-    let l = c.before.before.before.before.before.before.before.before.before.before.before.before.before.loop in
-    let p = c.before.before.before.before.before.before.before.before.before.before.before.spaced-size in
+    let l = c.before.before.before.before.before.before.before.before.before.before.before.before.before.loop-rows in
+    let p = c.before.before.before.before.before.before.before.before.before.before.before.spaced_size-front in
     let text = c.before.before.before.before.before.before.before.before.before.before.before.before.before.before.before.args.text.now in
-    let n = c.before.before.before.before.before.if2.n in
-    let h = c.before.before.if3.false in
-    let f : SpeltAt text p.result.end 10 n = ⊎_elim (λ w. spelt_same text p.result.end 10 w.2 w.1.ensures) (λ w. spelt_same text p.result.end 10 w.1 c.before.before.before.before.before.before.before.before.short-at.ensures) c.before.before.before.before.before.if2.branch in
-    let e : p.result.left ≡ 0 = omega (arith, c.before.before.before.before.before.before.before.before.before.if1.false) in
-    counted_on step tell text (rw (p.ensures.1, e) at p.ensures.0) (cell_moves text l.rows 0 p.result.end n zero-le c.before.before.before.before.before.before.before.before.before.before.before.before.loop-test.true f h) c.before.groups-size.ensures
-    c.capped.ensures)  -- loop_again
-    (λ c. c.before.loop.invariant))  -- returns-3
+    let n = c.before.before.before.before.before.if-n-front.n in
+    let h = c.before.before.if-n-front-2.false in
+    let f : SpeltAt text p.result.end 10 n = ⊎_elim (λ w. spelt_same text p.result.end 10 w.n-is w.number_at-n.ensures) (λ w. spelt_same text p.result.end 10 w.n-is c.before.before.before.before.before.before.before.before.short_at-n.ensures) c.before.before.before.before.before.if-n-front.branch-raw in
+    let e : p.result.left ≡ 0 = omega (arith, c.before.before.before.before.before.before.before.before.before.if-front-gt0.false) in
+    counted_on step tell text (rw (p.ensures.1, e) at p.ensures.0) (cell_moves text l.rows 0 p.result.end n zero-le c.before.before.before.before.before.before.before.before.before.before.before.before.loop-rows-test.true f h) c.before.groups_size.ensures
+    c.capped-size.ensures)  -- loop_again
+    (λ c. c.before.loop-rows.invariant))  -- returns-3

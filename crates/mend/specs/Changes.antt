@@ -25,7 +25,7 @@ changes_of name old new =
     changed Name.crc1 old.crc1 new.crc1 ++ changed name old.field new.field
     ++ changed crcrsv old.crcrsv new.crcrsv ++ changed crc2 old.crc2 new.crc2
 
--- of the frame that `afterMend` leaves
+-- of the frame that `after_mend` leaves
 unfoldable pub changes : (name words : ℕ) → List ℕ → (at n v : ℕ) → List ℤ
 changes name words s at n v = changes_of name (fields_of words s at n) (fields_of words (after_mend words s at n v) at n)
 

@@ -11,22 +11,22 @@ use Rattle.mend.specs.Changes.{changed}
 use Rattle.mend.proofs.note.Statement.{statement}
 use Rattle.mend.proofs.note.Tie as tie
 
-returns : tie.Need-returns
+returns : tie.Need-returns-then-old-new
 unfolding changed
-returns c = let s = c.before in rw (eq-eqb s.args.old s.args.new c.if1.true) (refl, omega arith, omega arith)
+returns c = let s = c.before in rw (eq-eqb s.args.old s.args.new c.if-old-new.true) (refl, omega arith, omega arith)
 
-returns-2 : tie.Need-returns-2
+returns-2 : tie.Need-returns
 unfolding changed
 returns-2 c =
     let s = c.before in
-    rw (ne_eqb s.args.old s.args.new c.if1.false) (
+    rw (ne_eqb s.args.old s.args.new c.if-old-new.false) (
       simp (towards_suc, to_z_pos w32 {n = s.args.name} (omega arith), to_z_pos w32 {n = s.args.old} (omega arith), to_z_pos w32 {n = s.args.new} (omega arith)),
       omega arith,
       omega arith,
     )
 
-pub note-spec : {M : Type 1} → statement M
-note-spec =
+pub note_spec : {M : Type 1} → statement M
+note_spec =
     tie.close
     (tie.spec
     returns

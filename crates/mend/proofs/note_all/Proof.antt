@@ -24,9 +24,9 @@ returns c =
     let crcrsv-change = changed crcrsv old.crcrsv new.crcrsv in
     let crc2-change = changed crc2 old.crc2 new.crc2 in
     next list (crc1-change ++ field-change ++ crcrsv-change) crc2-change
-    (next list (crc1-change ++ field-change) crcrsv-change (next list crc1-change field-change (next list [] crc1-change (refl, refl) first.note.ensures) second.note2.ensures) third.note3.ensures)
-    fourth.note4.ensures
+    (next list (crc1-change ++ field-change) crcrsv-change (next list crc1-change field-change (next list [] crc1-change (refl, refl) first.note-first.ensures) second.note-second.ensures) third.note-third.ensures)
+    fourth.note.ensures
 
-pub note-all-spec : {M : Type 1} → statement M
-note-all-spec =
+pub note_all_spec : {M : Type 1} → statement M
+note_all_spec =
     tie.close (tie.spec (λ c κs. search rules) (λ c κs. search rules) (λ c κs. search rules) (λ c κs. search rules) (λ c. search rules) returns)

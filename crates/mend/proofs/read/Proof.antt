@@ -14,14 +14,14 @@ returns c =
     let list = s.args.s.now in
     let at = s.args.at in
     let n = min s.args.n 16 in
-    let crcrsv = c.before.get3.ensures in
-    let crc2 = c.get4.ensures in (
-      λ i. record { crc1 = first.get.ensures i; field = c.before.before.get2.ensures i; crcrsv = crcrsv i; crc2 = crc2 i },
+    let crcrsv = c.before.get-crcrsv.ensures in
+    let crc2 = c.get-crc2.ensures in (
+      λ i. record { crc1 = first.get-crc1.ensures i; field = c.before.before.get-field.ensures i; crcrsv = crcrsv i; crc2 = crc2 i },
       record {
-        crc1 = subst (λ v. v < 65536) (sym first.get.ensures) (value_lt_16 list 16 16 (omega arith));
-        field = subst (λ v. v < 65536) (sym c.before.before.get2.ensures) (value_lt_16 list at n (omega arith));
-        crcrsv = subst (λ v. v < 65536) (sym c.before.get3.ensures) (value_lt_16 list (s.args.words * 16 - 17) 1 (omega arith));
-        crc2 = subst (λ v. v < 65536) (sym c.get4.ensures) (value_lt_16 list ((s.args.words - 1) * 16) 16 (omega arith));
+        crc1 = subst (λ v. v < 65536) (sym first.get-crc1.ensures) (value_lt_16 list 16 16 (omega arith));
+        field = subst (λ v. v < 65536) (sym c.before.before.get-field.ensures) (value_lt_16 list at n (omega arith));
+        crcrsv = subst (λ v. v < 65536) (sym c.before.get-crcrsv.ensures) (value_lt_16 list (s.args.words * 16 - 17) 1 (omega arith));
+        crc2 = subst (λ v. v < 65536) (sym c.get-crc2.ensures) (value_lt_16 list ((s.args.words - 1) * 16) 16 (omega arith));
       },
     )
 

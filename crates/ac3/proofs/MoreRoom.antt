@@ -29,16 +29,16 @@ Full clear = ⊥
 Full (stop x bit) = x ≡ full
 
 module _ (k : ℕ) where
-  check_more : (i : Item) (limit left whenFull : ℕ) (ws : List ℕ) (at : ℕ)
-      → ¬ Full (check i limit left whenFull ws at) → check i limit (left + k) whenFull ws at ≡ check i limit left whenFull ws at
+  check_more : (i : Item) (limit left when_full : ℕ) (ws : List ℕ) (at : ℕ)
+      → ¬ Full (check i limit left when_full ws at) → check i limit (left + k) when_full ws at ≡ check i limit left when_full ws at
   unfolding check room_check
-  check_more i limit zero whenFull [] at h = absurd (h refl)
-  check_more i limit (suc left) whenFull [] at h = room_some (suc left + k) whenFull (omega arith)
-  check_more i limit left whenFull (w ∷ ws) at h = go (ltb limit (at + w)) (check_more i limit left whenFull ws (at + w)) h
+  check_more i limit zero when_full [] at h = absurd (h refl)
+  check_more i limit (suc left) when_full [] at h = room_some (suc left + k) when_full (omega arith)
+  check_more i limit left when_full (w ∷ ws) at h = go (ltb limit (at + w)) (check_more i limit left when_full ws (at + w)) h
     where
-      go : (b : Bool) → (¬ Full (check i limit left whenFull ws (at + w)) → check i limit (left + k) whenFull ws (at + w) ≡ check i limit left whenFull ws (at + w))
-          → ¬ Full (cond b (stop (past i) at) (check i limit left whenFull ws (at + w)))
-          → cond b (stop (past i) at) (check i limit (left + k) whenFull ws (at + w)) ≡ cond b (stop (past i) at) (check i limit left whenFull ws (at + w))
+      go : (b : Bool) → (¬ Full (check i limit left when_full ws (at + w)) → check i limit (left + k) when_full ws (at + w) ≡ check i limit left when_full ws (at + w))
+          → ¬ Full (cond b (stop (past i) at) (check i limit left when_full ws (at + w)))
+          → cond b (stop (past i) at) (check i limit (left + k) when_full ws (at + w)) ≡ cond b (stop (past i) at) (check i limit left when_full ws (at + w))
       go true later h = refl
       go false later h = later h
 

@@ -1,4 +1,4 @@
--- Header and blocks apart: what is proved of `headerTo` and `blocksTo` (`Apart`). The contracts of `ac3::apart::header` and `blocks` say that
+-- Header and blocks apart: what is proved of `header_to` and `blocks_to` (`Apart`). The contracts of `ac3::apart::header` and `blocks` say that
 -- answer and room at exit are these, so each line is about what a caller gets.
 use Rattle.std.specs.Prelude.{List, ◌++◌, ◌≡◌, ◌*◌, ◌≤◌, min, ℤ, length, drop}
 use Rattle.syntax.specs.Numbers.{row_width}

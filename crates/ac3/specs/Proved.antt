@@ -1,7 +1,7 @@
 -- All that is proved of the parser, in one place: each field is a theorem, and `proofs/Proved.antt` gives them all. The contract of
--- `ac3::parse` says that its answer and the room at exit are `answerTo` of the call, so each of them is about what a caller gets.
+-- `ac3::parse` says that its answer and the room at exit are `answer_to` of the call, so each of them is about what a caller gets.
 --
--- A call is a capture, a place in it and the room that is lent. Its input is the capture from the place on. `answerTo c` is the answer (a
+-- A call is a capture, a place in it and the room that is lent. Its input is the capture from the place on. `answer_to c` is the answer (a
 -- refusal's number or 0, the rows written, the bit reached, what did not fit, a summary) and the room after it. `listed c` is the definition's own list of
 -- rows.
 use Rattle.syntax.specs.Demand3.{Demand3}

@@ -11,7 +11,7 @@ use syntax::cursors::{START, halt};
 use syntax::refusals::TOO_SHORT;
 use syntax::{Cursor, NONE, ROW, Refusal};
 
-// No header has more rows (`mostHeaderRows`, specs/Apart): room for these is as good as any more.
+// No header has more rows (`most_header_rows`, specs/Apart): room for these is as good as any more.
 pub const MOST_HEADER_ROWS: usize = 44;
 
 const OWN: usize = MOST_HEADER_ROWS * ROW;

@@ -21,7 +21,7 @@ use syntax::refusals::TOO_SHORT;
 use syntax::{Cursor, NONE};
 
 // No frame has more rows: so many occur with five channels and LFE, two of the channels coupled from the lowest sub-band on, all sent anew
-// in every block, and eight delta segments for each (`mostRows`, specs/RowBound). With room for these no frame is refused for want of room.
+// in every block, and eight delta segments for each (`most_rows`, specs/RowBound). With room for these no frame is refused for want of room.
 pub const MOST_ROWS: usize = 4067;
 
 // All that a block leaves to the next one, besides the exponents.

@@ -22,14 +22,14 @@ room_some zero bit h = absurd (omega arith)
 room_some (suc left) bit h = refl
 
 -- a clear check: there is a row left
-pub clear_room : (i : Item) (limit left whenFull : ℕ) (ws : List ℕ) (at : ℕ) → check i limit left whenFull ws at ≡ clear → 0 < left
+pub clear_room : (i : Item) (limit left when_full : ℕ) (ws : List ℕ) (at : ℕ) → check i limit left when_full ws at ≡ clear → 0 < left
 unfolding check room_check
-clear_room i limit zero whenFull [] at e = let z : ◌≡◌ {A = ℕ} 0 1 = cc in omega arith
-clear_room i limit (suc left) whenFull [] at e = omega arith
-clear_room i limit left whenFull (w ∷ ws) at e = go (ltb limit (at + w)) (clear_room i limit left whenFull ws (at + w)) e
+clear_room i limit zero when_full [] at e = let z : ◌≡◌ {A = ℕ} 0 1 = cc in omega arith
+clear_room i limit (suc left) when_full [] at e = omega arith
+clear_room i limit left when_full (w ∷ ws) at e = go (ltb limit (at + w)) (clear_room i limit left when_full ws (at + w)) e
   where
-    go : (b : Bool) → (check i limit left whenFull ws (at + w) ≡ clear → 0 < left)
-        → cond b (stop (past i) at) (check i limit left whenFull ws (at + w)) ≡ clear
+    go : (b : Bool) → (check i limit left when_full ws (at + w) ≡ clear → 0 < left)
+        → cond b (stop (past i) at) (check i limit left when_full ws (at + w)) ≡ clear
         → 0 < left
     go true later e = let z : ◌≡◌ {A = ℕ} 0 1 = cc in omega arith
     go false later e = later e

@@ -123,7 +123,7 @@ module _ {bad : Bool} {x : Refusal} {c : Cursor} where
         passed = λ z. absurd (sick z);
       }
 
--- a judge of a test reads `refuseIf` of what the test is
+-- a judge of a test reads `refuse_if` of what the test is
 pub judged : {bad test : Bool} {x : Refusal} {c d : Cursor} {s : List ℕ} {room : List ℤ}
     → Judged bad x c d → bad ≡ test → Reads (refuse_if test x) s c room tt d room
 judged {s = s} {room = room} h e = rw (← e) (h.reads s room)

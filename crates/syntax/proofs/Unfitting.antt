@@ -29,18 +29,18 @@ abbrev Says : Item → (limit to : ℕ) → Check → Type 0
 Says i limit to clear = Unit {0}
 Says i limit to (stop x bit) = ((x ≡ past i) × (limit < to)) ⊎ (x ≡ full)
 
-module _ (i : Item) (limit left whenFull : ℕ) where
-  check_says : (ws : List ℕ) (at : ℕ) → Says i limit (at + sum ws) (check i limit left whenFull ws at)
+module _ (i : Item) (limit left when_full : ℕ) where
+  check_says : (ws : List ℕ) (at : ℕ) → Says i limit (at + sum ws) (check i limit left when_full ws at)
   unfolding check room_check sum
   check_says [] at = go left
     where
-      go : (left : ℕ) → Says i limit (at + 0) (room_check left whenFull)
+      go : (left : ℕ) → Says i limit (at + 0) (room_check left when_full)
       go zero = inr refl
       go (suc left) = tt
   check_says (w ∷ ws) at = go (ltb limit (at + w)) refl (check_says ws (at + w))
     where
       rest : Check
-      rest = check i limit left whenFull ws (at + w)
+      rest = check i limit left when_full ws (at + w)
 
       go : (b : Bool) → ltb limit (at + w) ≡ b → Says i limit (at + w + sum ws) rest → Says i limit (at + (w + sum ws)) (cond b (stop (past i) at) rest)
       go true e later = inl (refl, omega (arith, ltb-true limit (at + w) e))

@@ -56,7 +56,7 @@ pub record Reads {A : Type 0} (g : Grammar A) (s : List ℕ) (c : Cursor) (befor
   pub long : length after ≡ length before
   pub unmoved : Unmoved c d
 
--- what a judge promises: that it reads `refuseIf`, and that what went on was not bad
+-- what a judge promises: that it reads `refuse_if`, and that what went on was not bad
 pub record Judged (bad : Bool) (x : Refusal) (c d : Cursor) : Type 0 where
   pub reads : (s : List ℕ) (room : List ℤ) → Reads (refuse_if bad x) s c room tt d room
   pub passed : Goes d → bad ≡ false

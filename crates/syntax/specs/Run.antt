@@ -45,10 +45,10 @@ room_check zero bit = stop full bit
 room_check (suc left) bit = clear
 
 -- An item's bits are held against the limit piece by piece: past it, at the start of the first piece that would end there.
--- Then its row is held against the room: full, at the bit `whenFull`.
-unfoldable pub check : Item → (limit left whenFull : ℕ) → List ℕ → (at : ℕ) → Check
-check i limit left whenFull [] at = room_check left whenFull
-check i limit left whenFull (w ∷ ws) at = cond (ltb limit (at + w)) (stop (past i) at) (check i limit left whenFull ws (at + w))
+-- Then its row is held against the room: full, at the bit `when_full`.
+unfoldable pub check : Item → (limit left when_full : ℕ) → List ℕ → (at : ℕ) → Check
+check i limit left when_full [] at = room_check left when_full
+check i limit left when_full (w ∷ ws) at = cond (ltb limit (at + w)) (stop (past i) at) (check i limit left when_full ws (at + w))
 
 unfoldable pub sum : List ℕ → ℕ
 sum [] = 0

@@ -1,4 +1,4 @@
--- `syntax::elements::flag_if` meets its contract: the test says which of the two `readIf` is. Assumes nothing.
+-- `syntax::elements::flag_if` meets its contract: the test says which of the two `read_if` is. Assumes nothing.
 use borrow.Author.Rules.{rules}
 use Rattle.syntax.proofs.Sequence.{finished}
 use Rattle.syntax.proofs.elements.flag_if.Statement.{statement}

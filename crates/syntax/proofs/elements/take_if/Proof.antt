@@ -1,4 +1,4 @@
--- `syntax::elements::take_if` meets its contract: the test says which of the two `readIf` is. Assumes nothing.
+-- `syntax::elements::take_if` meets its contract: the test says which of the two `read_if` is. Assumes nothing.
 use lib.Pow.{pow_pos}
 use borrow.Author.Rules.{rules}
 use Rattle.syntax.proofs.Sequence.{finished}

@@ -34,7 +34,7 @@ use Rattle.ac3.specs.declared.Answer.{Answer}
 use Rattle.ac3.proofs.AtMost as bounds
 use Rattle.ac3.proofs.Later.{later_bytes}
 use Rattle.ac3.proofs.Promise.{promised, result, landed, answer_is}
-use Rattle.ac3.proofs.Rooms.{same_answer}
+use Rattle.ac3.proofs.Rooms.{same_answer_lem}
 use Rattle.ac3.proofs.RowBound.{a_bsi, a_audio}
 use Rattle.ac3.proofs.Within.{kept_within}
 use Rattle.rows.specs.Framed.{shortest, frame_bytes_of, frame_of, SameFrame, Framed, AcceptedFramed, RowsCount}
@@ -267,7 +267,7 @@ bit_taken s n p h = ap (λ b. b / 2 ^ (7 - p % 8) % 2) (sym (get_or-take n s (p 
 
 -- an answer is told by the rows, the bit and the end
 told_of : (e e' : End Audio) (p p' : Place) → e ≡ e' → p.count ≡ p'.count → p.at ≡ p'.at → (answered (finish e p)).0 ≡ (answered (finish e' p')).0
-told_of e e' p p' end count at = same_answer e p p' count at ∙ ap (λ e. (answered (finish e p')).0) end
+told_of e e' p p' end count at = same_answer_lem e p p' count at ∙ ap (λ e. (answered (finish e p')).0) end
 
 told_alike : (c d : Call) → (result d).end ≡ (result c).end → (result d).rows ≡ (result c).rows → (result d).spot.at ≡ (result c).spot.at → SameFrame c d
 told_alike c d end rows at =

@@ -104,21 +104,35 @@ module _ {A : Type 0} (s : List ℕ) (a : A) where
 
 -- ---- the frame
 
+abbrev bsid_field : Laid
+bsid_field = laid steering (plain Name.bsid) 5
+
+abbrev bsmod_field : Laid
+bsmod_field = laid unsteering (plain Name.bsmod) 3
+
+abbrev acmod_field : Laid
+acmod_field = laid steering (plain Name.acmod) 3
+
 abbrev bsi_fields : List Laid
-bsi_fields = laid steering (plain Name.bsid) 5 ∷ laid unsteering (plain Name.bsmod) 3 ∷ laid steering (plain Name.acmod) 3 ∷ []
+bsi_fields = bsid_field ∷ bsmod_field ∷ acmod_field ∷ []
+
+abbrev crc1_field : Laid
+crc1_field = laid unsteering (roled Crc1 Name.crc1) 16
+
+abbrev size_fields : List Laid
+size_fields = laid steering (roled FrameSize Name.fscod) 2 ∷ laid steering (roled FrameSize Name.frmsizecod) 6 ∷ bsi_fields
 
 abbrev fields : List Laid
 fields =
-    laid steering (roled Sync Name.syncword) 16 ∷ laid unsteering (roled Crc1 Name.crc1) 16
-    ∷ laid steering (roled FrameSize Name.fscod) 2 ∷ laid steering (roled FrameSize Name.frmsizecod) 6 ∷ bsi_fields
+    laid steering (roled Sync Name.syncword) 16 ∷ crc1_field ∷ size_fields
 
 of_syncinfo : Begins fields (λ _ left. left ≡ bsi_fields) syncinfo
 unfolding syncinfo ◌>>=◌
-of_syncinfo = (refl, λ syncword. past _ _ _ (not (eqb syncword 0x0B77)) not_sync _ (refl, (refl, λ fscod. (refl, λ code. past _ _ _ (eqb (frame_bytes fscod code) 0) no_frame_size _ refl))))
+of_syncinfo = (refl, λ syncword. past crc1_field size_fields (λ _ left. left ≡ bsi_fields) (not (eqb syncword 0x0B77)) not_sync _ (refl, (refl, λ fscod. (refl, λ code. past bsid_field (bsmod_field ∷ acmod_field ∷ []) (λ _ left. left ≡ bsi_fields) (eqb (frame_bytes fscod code) 0) no_frame_size _ refl))))
 
 of_bsi : (fscod bytes : ℕ) → Begins bsi_fields (λ _ _. ⊥) (bsi fscod bytes)
 unfolding bsi ◌>>=◌
-of_bsi fscod bytes = (refl, λ bsid. past _ _ _ (ltb 8 bsid) bad_bsid _ (refl, (refl, λ acmod. tt)))
+of_bsi fscod bytes = (refl, λ bsid. past bsmod_field (acmod_field ∷ []) (λ _ _. ⊥) (ltb 8 bsid) bad_bsid _ (refl, (refl, λ acmod. tt)))
 
 of_frame_lem : Begins fields (λ _ _. ⊥) syncframe
 unfolding syncframe header

@@ -10,7 +10,7 @@ use lib.Dec.{T, leb, ltb, leb→le, le→leb}
 use borrow.Author.Tests.{le-ltb}
 use lib.IntN.{ℤ, pos, negsuc, nat_abs, neg_ℤ, ◌+ℤ◌, ◌-ℤ◌, ◌*ℤ◌, +ℤ_idl, +ℤ_comm, +ℤ-neg_ℤ_cancel}
 use lib.Signed.{mag, lt_z, ◌≤ℤ◌}
-use Rattle.signed.specs.Level.{max_z, eq_z}
+use Rattle.signed.specs.Level.{max_z}
 use Rattle.signed.specs.Bound.{Below}
 use Rattle.signed.proofs.Bounds.{bounds, mag_add, mag_cond, below_is, below_u16, below_more, below_add, below_shr, below_128, below_lit, below_cond, below_fall}
 use Rattle.signed.proofs.Order.{plus_mono, plus_above}
@@ -98,7 +98,7 @@ pub lowcomp_below : (a b0 b1 : ℤ) (bin : ℕ) → Below 9 a → Below 9 (lowco
 unfolding lowcomp
 lowcomp_below a b0 b1 bin p =
     below_cond (ltb bin 20)
-    (below_cond (eq_z (b0 +ℤ pos 256) b1)
+    (below_cond _
     (below_cond (ltb bin 7) (below_lit tt) (below_lit tt))
     (below_cond (lt_z b1 b0) (below_fall 64 p (below_lit tt)) p))
     (below_fall 128 p (below_lit tt))

@@ -18,7 +18,7 @@ clamped (negsuc n) = refl
 -- so an address is below 64
 pub address_below : (psd mask : ℤ) → address_of psd mask < 64
 unfolding address_of
-address_below psd mask = omega (arith, clamp_le (shr_z (psd -ℤ mask) 32) 63)
+address_below psd mask = omega (arith, clamp_le)
 
 -- ---- a level less a mask that is not far below 0
 

@@ -3,14 +3,14 @@ use borrow.Author.Tests.{lt-leb, le-leb}
 use Rattle.alloc_probe.proofs.codes_fit.Statement.{statement}
 use Rattle.alloc_probe.proofs.codes_fit.Tie as tie
 
-pub codes-fit-spec : {M : Type 1} → statement M
-codes-fit-spec =
+pub codes_fit_spec : {M : Type 1} → statement M
+codes_fit_spec =
     tie.close
     (tie.spec
-    (λ c. rw (lt-leb _ _ c.if1.true))
-    (λ c. rw (le-leb _ _ c.before.if1.false, lt-leb _ _ c.if2.true))
-    (λ c. rw (le-leb _ _ c.before.before.if1.false, le-leb _ _ c.before.if2.false, lt-leb _ _ c.if3.true))
+    (λ c. rw (lt-leb _ _ c.if-fscod-gt2.true))
+    (λ c. rw (le-leb _ _ c.before.if-fscod-gt2.false, lt-leb _ _ c.if-csnroffst-gt63.true))
+    (λ c. rw (le-leb _ _ c.before.before.if-fscod-gt2.false, le-leb _ _ c.before.if-csnroffst-gt63.false, lt-leb _ _ c.if-fsnroffst-gt15.true))
     (λ c.
-    rw (le-leb _ _ c.before.before.before.if1.false, le-leb _ _ c.before.before.if2.false, le-leb _ _ c.before.if3.false, lt-leb _ _ c.if4.true))
+    rw (le-leb _ _ c.before.before.before.if-fscod-gt2.false, le-leb _ _ c.before.before.if-csnroffst-gt63.false, le-leb _ _ c.before.if-fsnroffst-gt15.false, lt-leb _ _ c.if-count-gt8.true))
     (λ c.
-    rw (le-leb _ _ c.before.before.before.if1.false, le-leb _ _ c.before.before.if2.false, le-leb _ _ c.before.if3.false, le-leb _ _ c.if4.false)))
+    rw (le-leb _ _ c.before.before.before.if-fscod-gt2.false, le-leb _ _ c.before.before.if-csnroffst-gt63.false, le-leb _ _ c.before.if-fsnroffst-gt15.false, le-leb _ _ c.if-count-gt8.false)))

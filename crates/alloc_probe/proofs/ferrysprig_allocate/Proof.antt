@@ -5,7 +5,7 @@ use mathlib.Core.List.{List, [], ◌∷◌}
 use Prim.Native.Nat.{ℕ, zero, suc, ◌≤◌}
 use native.Mathlib.Omega.{arith}
 use borrow.Author.Rules.{rules}
-use borrow.Author.Tests.{not-true, not-false, leb-true}
+use borrow.Author.Tests.{leb-true}
 use lib.Dec.{T, leb}
 use lib.IntN.{ℤ, pos}
 use lib.Signed.{le_z}
@@ -55,33 +55,33 @@ fitting (z ∷ zs) e zero =
     (record { le = true_is both-tests.0 }, record { le = true_is both-tests.1 })
 fitting (z ∷ zs) e (suc bin) = fitting zs (both_is (is_exponent z) (exponents_fit zs) e).1 bin
 
-range : (c : tie.Else1) → let s = c.before.before in range_fits s.args.start s.args.end ≡ true
-range c = sym c.before.range-fits.ensures ∙ not-false _ c.if1.false
+range : (c : tie.Else-not-range_fits) → let s = c.before.before in range_fits s.args.start s.args.end ≡ true
+range c = sym c.before.range_fits.ensures ∙ c.if-not-range_fits.false
 
-numbers : (c : tie.Else2) → let s = c.before.before.before.before in codes_fit s.args.fscod s.args.csnroffst s.args.fsnroffst s.args.count s.args.which ≡ true
-numbers c = sym c.before.codes-fit.ensures ∙ not-false _ c.if2.false
+numbers : (c : tie.Else-not-codes_fit) → let s = c.before.before.before.before in codes_fit s.args.fscod s.args.csnroffst s.args.fsnroffst s.args.count s.args.which ≡ true
+numbers c = sym c.before.codes_fit.ensures ∙ c.if-not-codes_fit.false
 
-told : (c : tie.Else2) → let s = c.before.before.before.before in Codes s.args.fscod s.args.csnroffst s.args.fsnroffst s.args.count
+told : (c : tie.Else-not-codes_fit) → let s = c.before.before.before.before in Codes s.args.fscod s.args.csnroffst s.args.fsnroffst s.args.count
 told c = let s = c.before.before.before.before in codes s.args.fscod s.args.csnroffst s.args.fsnroffst s.args.count s.args.which (numbers c)
 
-all_fit : (c : tie.Else3) → exponents_fit c.before.before.before.before.before.before.before.args.exponents.now ≡ true
-all_fit c = sym c.before.exponents-fit.ensures ∙ not-false _ c.if3.false
+all_fit : (c : tie.Else-not-exponents_fit) → exponents_fit c.before.before.before.before.before.before.before.args.exponents.now ≡ true
+all_fit c = sym c.before.exponents_fit.ensures ∙ c.if-not-exponents_fit.false
 
-pub ferrysprig-allocate-spec : {M : Type 1} → statement M
+pub ferrysprig_allocate_spec : {M : Type 1} → statement M
 unfolding answer
-ferrysprig-allocate-spec =
+ferrysprig_allocate_spec =
     tie.close
     (tie.spec
     (λ c κs. search rules)
     (λ c.
-    let no = sym c.before.range-fits.ensures ∙ not-true _ c.if1.true in rw no (refl, refl))
+    let no = sym c.before.range_fits.ensures ∙ c.if-not-range_fits.true in rw no (refl, refl))
     (λ c κs. search rules)
     (λ c.
-    let no = sym c.before.codes-fit.ensures ∙ not-true _ c.if2.true in
+    let no = sym c.before.codes_fit.ensures ∙ c.if-not-codes_fit.true in
     rw (range c.before.before, no) (refl, refl))
     (λ c κs. search rules)
     (λ c.
-    let no = sym c.before.exponents-fit.ensures ∙ not-true _ c.if3.true in
+    let no = sym c.before.exponents_fit.ensures ∙ c.if-not-exponents_fit.true in
     rw (range c.before.before.before.before.before, numbers c.before.before.before, no) (refl, refl))
     (λ c κs. search rules)
     (λ c κs. search rules)
@@ -108,7 +108,7 @@ ferrysprig-allocate-spec =
         count = small.segments;
         fastleak = below_cast (below_more (below_u16 s.args.fastleak (omega arith)) tt);
         slowleak = below_cast (below_more (below_u16 s.args.slowleak (omega arith)) tt);
-        snroffset = below_read (below_is snr.snr-offset.ensures (snr_below s.args.csnroffst s.args.fsnroffst (omega (arith, small.coarse)) (omega (arith, small.fine))));
+        snroffset = below_read (below_is snr.snr_offset.ensures (snr_below s.args.csnroffst s.args.fsnroffst (omega (arith, small.coarse)) (omega (arith, small.fine))));
         floor = below_read floor.floor.ensures.1;
       },
       fitting s.args.exponents.now (all_fit e3),
@@ -126,15 +126,15 @@ ferrysprig-allocate-spec =
     rw (range e1, numbers e2, all_fit e3) (
       refl,
       rw (
-        sym gain.before.before.before.fast-decay.ensures,
-        sym gain.before.before.slow-decay.ensures,
-        sym gain.before.fast-gain.ensures,
-        sym gain.slow-gain.ensures,
-        sym knee.db-knee.ensures,
-        sym (back_32 _ snr.snr-offset.type-inv ∙ snr.snr-offset.ensures),
-        sym (back_32 _ floor.floor.type-inv ∙ floor.floor.ensures.0),
+        sym gain.before.before.before.fast_decay.ensures,
+        sym gain.before.before.slow_decay.ensures,
+        sym gain.before.fast_gain.ensures,
+        sym gain.slow_gain.ensures,
+        sym knee.db_knee.ensures,
+        sym (back_32 _ snr.snr_offset.type_inv ∙ snr.snr_offset.ensures),
+        sym (back_32 _ floor.floor.type_inv ∙ floor.floor.ensures.0),
         sym (cast_32 s.args.fastleak (omega arith)),
         sym (cast_32 s.args.slowleak (omega arith)),
-        sym table.table_of.ensures,
+        sym table.table_of-baps.ensures,
       ) c.allocate.ensures,
     )))

@@ -9,11 +9,11 @@ use mir.ValLaws.{to_z-of_z}
 use Rattle.alloc_probe.proofs.is_exponent.Statement.{statement}
 use Rattle.alloc_probe.proofs.is_exponent.Tie as tie
 
-pub is-exponent-spec : {M : Type 1} → statement M
-is-exponent-spec =
+pub is_exponent_spec : {M : Type 1} → statement M
+is_exponent_spec =
     tie.close
     (tie.spec
-    (λ c. let e = to_z-of_z w16 c.before.args.e c.before.ranges.e in rw (rw e at c.if1.true, e))
+    (λ c. let e = to_z-of_z w16 c.before.args.e c.before.ranges.e in rw (rw e at c.if-e-ge0.true, e))
     (λ c.
     let e = to_z-of_z w16 c.before.args.e c.before.ranges.e in
-    c.if1.false ∙ ap (λ (low : Bool). (low && le_z c.before.args.e (pos 24))) (sym (rw e at c.if1.false))))
+    c.if-e-ge0.false ∙ ap (λ (low : Bool). (low && le_z c.before.args.e (pos 24))) (sym (rw e at c.if-e-ge0.false))))

@@ -4,10 +4,10 @@ use borrow.Author.Rules.{rules}
 use Rattle.alloc_probe.proofs.range_fits.Statement.{statement}
 use Rattle.alloc_probe.proofs.range_fits.Tie as tie
 
-pub range-fits-spec : {M : Type 1} → statement M
-range-fits-spec =
+pub range_fits_spec : {M : Type 1} → statement M
+range_fits_spec =
     tie.close
     (tie.spec
     (λ c κs. search rules)
-    (λ c. rw (sym c.before.start-fits.ensures, c.if1.true))
-    (λ c. rw (sym c.before.start-fits.ensures, c.if1.false)))
+    (λ c. rw (sym c.before.start_fits.ensures, c.if-start_fits.true))
+    (λ c. rw (sym c.before.start_fits.ensures, c.if-start_fits.false)))

@@ -3,9 +3,9 @@ use borrow.Author.Tests.{eq-eqb, ne_eqb}
 use Rattle.alloc_probe.proofs.start_fits.Statement.{statement}
 use Rattle.alloc_probe.proofs.start_fits.Tie as tie
 
-pub start-fits-spec : {M : Type 1} → statement M
-start-fits-spec =
+pub start_fits_spec : {M : Type 1} → statement M
+start_fits_spec =
     tie.close
     (tie.spec
-    (λ c. rw (eq-eqb _ _ c.if1.true))
-    (λ c. rw (ne_eqb _ _ c.if1.false)))
+    (λ c. rw (eq-eqb _ _ c.if-start-eq0.true))
+    (λ c. rw (ne_eqb _ _ c.if-start-eq0.false)))

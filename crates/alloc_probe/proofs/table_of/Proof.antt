@@ -4,11 +4,11 @@ use borrow.Author.Tests.{eq-eqb, ne_eqb}
 use Rattle.alloc_probe.proofs.table_of.Statement.{statement}
 use Rattle.alloc_probe.proofs.table_of.Tie as tie
 
-pub table-of-spec : {M : Type 1} → statement M
-table-of-spec =
+pub table_of_spec : {M : Type 1} → statement M
+table_of_spec =
     tie.close
     (tie.spec
     (λ c κs. search rules)
-    (λ c. rw (eq-eqb _ 0 c.before.if1.true) c.bit-allocation-pointers.ensures)
+    (λ c. rw (eq-eqb _ 0 c.before.if-which-eq0.true) c.bit_allocation_pointers.ensures)
     (λ c κs. search rules)
-    (λ c. rw (ne_eqb _ 0 c.before.if1.false) c.high-efficiency-pointers.ensures))
+    (λ c. rw (ne_eqb _ 0 c.before.if-which-eq0.false) c.high_efficiency_pointers.ensures))

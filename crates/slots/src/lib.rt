@@ -42,7 +42,7 @@ pub fn past_channel(chbwcod: usize) -> usize
 }
 
 // The coupling strategy in force.
-#[derive(Drop)]
+#[derive(Clone, Copy)]
 pub struct Coupling {
     pub cplinu: bool,
     pub chincpl: [bool; 5],
@@ -53,7 +53,7 @@ pub struct Coupling {
 }
 
 // The exponent strategies of a block.
-#[derive(Drop)]
+#[derive(Clone, Copy)]
 pub struct Strategies {
     pub cplexpstr: u8,
     pub chexpstr: [u8; 5],
@@ -61,7 +61,7 @@ pub struct Strategies {
 }
 
 // The bins that the exponents in force cover, for each slot.
-#[derive(Drop)]
+#[derive(Clone, Copy)]
 pub struct Cover {
     pub sent: [bool; 7],
     pub start: [u8; 7],
@@ -69,7 +69,7 @@ pub struct Cover {
 }
 
 // Bit allocation information (baie).
-#[derive(Drop)]
+#[derive(Clone, Copy)]
 pub struct Curve {
     pub sdcycod: u8,
     pub fdcycod: u8,
@@ -79,7 +79,7 @@ pub struct Curve {
 }
 
 // SNR offsets and fast gains (snroffste), the fine ones for each slot.
-#[derive(Drop)]
+#[derive(Clone, Copy)]
 pub struct Offsets {
     pub csnroffst: u8,
     pub fsnroffst: [u8; 7],
@@ -87,7 +87,7 @@ pub struct Offsets {
 }
 
 // Coupling leak initialisation (cplleake).
-#[derive(Drop)]
+#[derive(Clone, Copy)]
 pub struct CouplingLeak {
     pub sent: bool,
     pub cplfleak: u8,
@@ -95,7 +95,7 @@ pub struct CouplingLeak {
 }
 
 // Delta segments of a slot: offset, length and code of each.
-#[derive(Drop)]
+#[derive(Clone, Copy)]
 pub struct Deltas {
     pub count: u8,
     pub segments: [u8; 24],
@@ -107,7 +107,7 @@ pub const NO_DELTAS: Deltas = Deltas {
 };
 
 // What the bit allocation of a block goes by, besides the exponents.
-#[derive(Drop)]
+#[derive(Clone, Copy)]
 pub struct AllocState {
     pub curve: Curve,
     pub offsets: Offsets,

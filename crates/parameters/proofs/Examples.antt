@@ -7,8 +7,8 @@ use lib.ListN.{replicate}
 use Rattle.bits.specs.Bits.{bit_at, value}
 use Rattle.syntax.specs.Refusals.{too_short, no_delta, bad_delta}
 use Rattle.syntax.specs.Grammar.{Grammar, ◌>>=◌, ◌>>◌, turns, framed}
-use Rattle.syntax.specs.Run.{Spot, End, reached, refused, run, parse, unless, room_check, check}
-use Rattle.parameters.specs.Delta.{deltas, coded_deltas, channel_code, delta_code, slot_deltas, new_deltas, segment}
+use Rattle.syntax.specs.Run.{End, reached, refused, run, parse, unless, room_check, check}
+use Rattle.parameters.specs.Delta.{deltas, coded_deltas, channel_code, delta_code, slot_deltas}
 use Rattle.slots.specs.Slots.{no_deltas}
 use Rattle.slots.specs.declared.Deltas.{Deltas}
 

@@ -1,7 +1,7 @@
 -- The parameters of the bit allocation (4.3.3): the masking curve (4.4.3.30 to .35), the SNR offsets (4.4.3.36 to .43) and the coupling leak
 -- (4.4.3.44 to .46).
 use Rattle.std.specs.Prelude.{Bool, true, ℕ, set}
-use Rattle.syntax.specs.Grammar.{Grammar, announced, done, ◌>>=◌, ◌>>◌, one, nth, take, flag, read_if, for}
+use Rattle.syntax.specs.Grammar.{Grammar, announced, done, ◌>>=◌, one, nth, take, flag, read_if, for}
 use Rattle.syntax.specs.declared.Item.{Item}
 use Rattle.syntax.specs.Names as Name
 use Rattle.syntax.specs.Refusals.{no_curve, no_offsets}

@@ -14,23 +14,23 @@ reads c =
     let t3 = t4.before.before.before.before in
     let t2 = t3.before.before.before.before in
     let t1 = t2.before.before.before.before in (
-      then _ (rw t1.before.one.ensures at t1.take.ensures.0)
-          (then _ (rw t2.before.one2.ensures at t2.take2.ensures.0)
-          (then _ (rw t3.before.one3.ensures at t3.take3.ensures.0)
-          (then _ (rw t4.before.one4.ensures at t4.take4.ensures.0)
-          (then _ (rw t5.before.one5.ensures at t5.take5.ensures.0)
+      then _ (rw t1.before.one.ensures at t1.take-sdcycod.ensures.0)
+          (then _ (rw t2.before.one-2.ensures at t2.take-fdcycod.ensures.0)
+          (then _ (rw t3.before.one-3.ensures at t3.take-sgaincod.ensures.0)
+          (then _ (rw t4.before.one-4.ensures at t4.take-dbpbcod.ensures.0)
+          (then _ (rw t5.before.one-5.ensures at t5.take-floorcod.ensures.0)
           finished)))),
       record {
-        sdcycod = t1.take.ensures.1;
-        fdcycod = t2.take2.ensures.1;
-        sgaincod = t3.take3.ensures.1;
-        dbpbcod = t4.take4.ensures.1;
-        floorcod = t5.take5.ensures.1;
+        sdcycod = t1.take-sdcycod.ensures.1;
+        fdcycod = t2.take-fdcycod.ensures.1;
+        sgaincod = t3.take-sgaincod.ensures.1;
+        dbpbcod = t4.take-dbpbcod.ensures.1;
+        floorcod = t5.take-floorcod.ensures.1;
       },
     )
 
-pub new-curve-spec : {M : Type 1} → statement M
-new-curve-spec =
+pub new_curve_spec : {M : Type 1} → statement M
+new_curve_spec =
     tie.close
     (tie.spec
     (λ c κs. tt)  -- one-requires
@@ -43,10 +43,10 @@ new-curve-spec =
     (λ c κs. search rules)  -- take-requires-4
     (λ c κs. tt)  -- one-requires-5
     (λ c κs. search rules)  -- take-requires-5
-    (λ c. omega (arith, c.before.before.before.before.before.before.before.before.before.before.before.before.before.before.before.before.before.before.before.take.ensures.1))  -- cast-sdcycod
-    (λ c. omega (arith, c.before.before.before.before.before.before.before.before.before.before.before.before.before.before.before.before.take2.ensures.1))  -- cast-fdcycod
-    (λ c. omega (arith, c.before.before.before.before.before.before.before.before.before.before.before.before.before.take3.ensures.1))  -- cast-sgaincod
-    (λ c. omega (arith, c.before.before.before.before.before.before.before.before.before.before.take4.ensures.1))  -- cast-dbpbcod
-    (λ c. omega (arith, c.before.before.before.before.before.before.before.take5.ensures.1))  -- cast-floorcod
+    (λ c. omega (arith, c.before.before.before.before.before.before.before.before.before.before.before.before.before.before.before.before.before.before.before.take-sdcycod.ensures.1))  -- cast-sdcycod
+    (λ c. omega (arith, c.before.before.before.before.before.before.before.before.before.before.before.before.before.before.before.before.take-fdcycod.ensures.1))  -- cast-fdcycod
+    (λ c. omega (arith, c.before.before.before.before.before.before.before.before.before.before.before.before.before.take-sgaincod.ensures.1))  -- cast-sgaincod
+    (λ c. omega (arith, c.before.before.before.before.before.before.before.before.before.before.take-dbpbcod.ensures.1))  -- cast-dbpbcod
+    (λ c. omega (arith, c.before.before.before.before.before.before.before.take-floorcod.ensures.1))  -- cast-floorcod
     (λ c. (reads c).0.long)  -- same-length
     reads)

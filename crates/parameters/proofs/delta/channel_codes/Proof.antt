@@ -9,32 +9,32 @@ use Rattle.slots.specs.Sound.{SoundDeltas}
 use Rattle.parameters.proofs.delta.channel_codes.Statement.{statement}
 use Rattle.parameters.proofs.delta.channel_codes.Tie as tie
 
-abbrev invariant-loop : tie.invariant-loop
-invariant-loop s rows₀ blk nfchans codes₀ deltas₀ cursor₀ ch₀ rows codes deltas cursor ch =
+abbrev invariant-loop-ch : tie.invariant-loop-ch
+invariant-loop-ch s rows₀ blk nfchans codes₀ deltas₀ cursor₀ ch₀ rows codes deltas cursor ch =
     Turns (channel_code blk) 0 nfchans (record { codes = codes₀; deltas = deltas₀ }) s cursor₀ rows₀ ch (record { codes = codes; deltas = deltas }) cursor rows
     × SoundDeltas deltas
 
-abbrev decreases-loop : tie.decreases-loop
-decreases-loop s rows₀ blk nfchans codes₀ deltas₀ cursor₀ ch₀ rows codes deltas cursor ch = nfchans - ch
+abbrev decreases-loop-ch : tie.decreases-loop-ch
+decreases-loop-ch s rows₀ blk nfchans codes₀ deltas₀ cursor₀ ch₀ rows codes deltas cursor ch = nfchans - ch
 
-again : tie.Need-loop-preserved invariant-loop decreases-loop
+again : tie.Need-loop-ch-preserved invariant-loop-ch decreases-loop-ch
 unfolding channel_code
 again c =
     let t = c.before.before.before.before in
     let test = t.before.before in
-    (turn test.before.loop.invariant.0 test.loop-test.true t.delta-code.ensures.0, t.delta-code.ensures.1)
+    (turn test.before.loop-ch.invariant.0 test.loop-ch-test.true t.delta_code-next.ensures.0, t.delta_code-next.ensures.1)
 
-reads : tie.Need-returns invariant-loop decreases-loop
-reads c = let inv = c.before.loop.invariant in (ends inv.0 c.loop-test.false, inv.1)
+reads : tie.Need-returns invariant-loop-ch decreases-loop-ch
+reads c = let inv = c.before.loop-ch.invariant in (ends inv.0 c.loop-ch-test.false, inv.1)
 
-pub channel-codes-spec : {M : Type 1} → statement M
-channel-codes-spec =
+pub channel_codes_spec : {M : Type 1} → statement M
+channel_codes_spec =
     tie.close
     (tie.spec
-    invariant-loop
-    decreases-loop
+    invariant-loop-ch
+    decreases-loop-ch
     (λ c. (begins, c.before.requires.1))  -- loop_holds
-    (λ c κs. (omega arith, c.before.before.loop.invariant.1))  -- delta-code-requires
+    (λ c κs. (omega arith, c.before.before.loop-ch.invariant.1))  -- delta-code-requires
     (λ c. search rules)  -- add-ch
     (λ c. search rules)  -- loop-less
     again

@@ -9,30 +9,30 @@ use Rattle.slots.specs.Sound.{SoundDeltas}
 use Rattle.parameters.proofs.delta.channel_deltas.Statement.{statement}
 use Rattle.parameters.proofs.delta.channel_deltas.Tie as tie
 
-abbrev invariant-loop : tie.invariant-loop
-invariant-loop s rows₀ blk nfchans codes deltas₀ cursor₀ ch₀ rows deltas cursor ch =
+abbrev invariant-loop-ch : tie.invariant-loop-ch
+invariant-loop-ch s rows₀ blk nfchans codes deltas₀ cursor₀ ch₀ rows deltas cursor ch =
     Turns (slot_deltas blk codes) 0 nfchans deltas₀ s cursor₀ rows₀ ch deltas cursor rows × SoundDeltas deltas
 
-abbrev decreases-loop : tie.decreases-loop
-decreases-loop s rows₀ blk nfchans codes deltas₀ cursor₀ ch₀ rows deltas cursor ch = nfchans - ch
+abbrev decreases-loop-ch : tie.decreases-loop-ch
+decreases-loop-ch s rows₀ blk nfchans codes deltas₀ cursor₀ ch₀ rows deltas cursor ch = nfchans - ch
 
-again : tie.Need-loop-preserved invariant-loop decreases-loop
+again : tie.Need-loop-ch-preserved invariant-loop-ch decreases-loop-ch
 again c =
     let t = c.before.before.before in
     let test = t.before.before in
-    (turn test.before.loop.invariant.0 test.loop-test.true t.slot-deltas.ensures.0, t.slot-deltas.ensures.1)
+    (turn test.before.loop-ch.invariant.0 test.loop-ch-test.true t.slot_deltas-next.ensures.0, t.slot_deltas-next.ensures.1)
 
-reads : tie.Need-returns invariant-loop decreases-loop
-reads c = let inv = c.before.loop.invariant in (ends inv.0 c.loop-test.false, inv.1)
+reads : tie.Need-returns invariant-loop-ch decreases-loop-ch
+reads c = let inv = c.before.loop-ch.invariant in (ends inv.0 c.loop-ch-test.false, inv.1)
 
-pub channel-deltas-spec : {M : Type 1} → statement M
-channel-deltas-spec =
+pub channel_deltas_spec : {M : Type 1} → statement M
+channel_deltas_spec =
     tie.close
     (tie.spec
-    invariant-loop
-    decreases-loop
+    invariant-loop-ch
+    decreases-loop-ch
     (λ c. (begins, c.before.requires.1))  -- loop_holds
-    (λ c κs. (omega arith, c.before.before.loop.invariant.1))  -- slot-deltas-requires
+    (λ c κs. (omega arith, c.before.before.loop-ch.invariant.1))  -- slot-deltas-requires
     (λ c. search rules)  -- add-ch
     (λ c. search rules)  -- loop-less
     again

@@ -5,11 +5,11 @@ use Rattle.parameters.specs.Delta.{coded_deltas}
 use Rattle.parameters.proofs.delta.coded_deltas.Statement.{statement}
 use Rattle.parameters.proofs.delta.coded_deltas.Tie as tie
 
-sound : tie.Need-channel-deltas-requires
+sound : tie.Need-channel_deltas-requires
 sound c κs =
     let new = c.before.before.before in
     let entry = new.before.before.before.before.before.before.before.before.before.before.before.before.before in
-    (entry.requires.0, new.slot-deltas.ensures.1)
+    (entry.requires.0, new.slot_deltas-new.ensures.1)
 
 reads : tie.Need-returns
 unfolding coded_deltas
@@ -18,15 +18,15 @@ reads c =
     let new = all.before.before.before.before in
     let channels = new.before.before.before.before.before in
     let coupling = channels.before.before.before.before.before in (
-      then _ coupling.coupling-code.ensures.0
-          (then _ channels.channel-codes.ensures.0
-          (then _ new.slot-deltas.ensures.0
-          all.channel-deltas.ensures.0)),
-      all.channel-deltas.ensures.1,
+      then _ coupling.coupling_code-coupling.ensures.0
+          (then _ channels.channel_codes-channels.ensures.0
+          (then _ new.slot_deltas-new.ensures.0
+          all.channel_deltas.ensures.0)),
+      all.channel_deltas.ensures.1,
     )
 
-pub coded-deltas-spec : {M : Type 1} → statement M
-coded-deltas-spec =
+pub coded_deltas_spec : {M : Type 1} → statement M
+coded_deltas_spec =
     tie.close
     (tie.spec
     (λ c κs. search rules)  -- coupling-code-requires

@@ -15,15 +15,15 @@ reads c =
     let j1 = j2.before.before in
     let n = j1.before in
     let t = n.before.before in (
-      then _ (rw t.before.nth.ensures at t.take.ensures.0)
-          (then _ (judged j1.refuse-if.ensures n.nothing-to-keep.ensures)
-          (then _ (judged j2.refuse-if2.ensures refl)
-          (rw d.cleared-if.ensures.0 finished))),
-      d.cleared-if.ensures.1,
+      then _ (rw t.before.nth.ensures at t.take-deltbae.ensures.0)
+          (then _ (judged j1.refuse_if-kept.ensures n.nothing_to_keep.ensures)
+          (then _ (judged j2.refuse_if-cursor.ensures refl)
+          (rw d.cleared_if-deltas.ensures.0 finished))),
+      d.cleared_if-deltas.ensures.1,
     )
 
-pub delta-code-spec : {M : Type 1} → statement M
-delta-code-spec =
+pub delta_code_spec : {M : Type 1} → statement M
+delta_code_spec =
     tie.close
     (tie.spec
     (λ c κs. tt)  -- nth-requires

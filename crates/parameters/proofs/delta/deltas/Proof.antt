@@ -8,28 +8,28 @@ use Rattle.slots.proofs.Entries.{deltas_none}
 use Rattle.parameters.proofs.delta.deltas.Statement.{statement}
 use Rattle.parameters.proofs.delta.deltas.Tie as tie
 
-coded : tie.Need-returns
+coded : tie.Need-returns-then-deltbaie
 unfolding deltas
 coded c =
     let t = c.before in
     let test = t.before.before in
     let f = test.before.before.before in
-    (then _ (rw f.before.one.ensures at f.flag.ensures) (rw test.if1.true t.coded-deltas.ensures.0), t.coded-deltas.ensures.1)
+    (then _ (rw f.before.one.ensures at f.flag-deltbaie.ensures) (rw test.if-deltbaie.true t.coded_deltas.ensures.0), t.coded_deltas.ensures.1)
 
-none : tie.Need-returns-2
+none : tie.Need-returns-then-blk-eq0
 unfolding deltas
 none c =
     let f = c.before.before.before.before in
-    (then _ (rw f.before.one.ensures at f.flag.ensures) (rw (c.before.if1.false, eq-eqb _ 0 c.if2.true) finished), deltas_none)
+    (then _ (rw f.before.one.ensures at f.flag-deltbaie.ensures) (rw (c.before.if-deltbaie.false, eq-eqb _ 0 c.if-blk-eq0.true) finished), deltas_none)
 
-kept : tie.Need-returns-3
+kept : tie.Need-returns
 unfolding deltas
 kept c =
     let f = c.before.before.before.before in
-    (then _ (rw f.before.one.ensures at f.flag.ensures) (rw (c.before.if1.false, ne_eqb _ 0 c.if2.false) finished), f.before.before.before.before.requires.1)
+    (then _ (rw f.before.one.ensures at f.flag-deltbaie.ensures) (rw (c.before.if-deltbaie.false, ne_eqb _ 0 c.if-blk-eq0.false) finished), f.before.before.before.before.requires.1)
 
-pub deltas-spec : {M : Type 1} → statement M
-deltas-spec =
+pub deltas_spec : {M : Type 1} → statement M
+deltas_spec =
     tie.close
     (tie.spec
     (λ c κs. tt)  -- one-requires

@@ -15,16 +15,16 @@ reads c =
     let n3 = t1.before.before.before in
     let n2 = n3.before in
     let n1 = n2.before in (
-      rw (← n1.delta-name.ensures, ← n2.delta-name2.ensures, ← n3.delta-name3.ensures)
-          (then _ (rw t1.before.part_of.ensures at t1.take.ensures.0)
-          (then _ (rw t2.before.part-of2.ensures at t2.take2.ensures.0)
-          (then _ (rw t3.before.part-of3.ensures at t3.take3.ensures.0)
-          (rw w.with-segment.ensures.0 finished)))),
-      w.with-segment.ensures.1,
+      rw (← n1.delta_name-offset_name.ensures, ← n2.delta_name-length_name.ensures, ← n3.delta_name-code_name.ensures)
+          (then _ (rw t1.before.part_of.ensures at t1.take-deltoffst.ensures.0)
+          (then _ (rw t2.before.part_of-2.ensures at t2.take-deltlen.ensures.0)
+          (then _ (rw t3.before.part_of-3.ensures at t3.take-deltba.ensures.0)
+          (rw w.with_segment-segments.ensures.0 finished)))),
+      w.with_segment-segments.ensures.1,
     )
 
-pub segment-spec : {M : Type 1} → statement M
-segment-spec =
+pub segment_spec : {M : Type 1} → statement M
+segment_spec =
     tie.close
     (tie.spec
     (λ c κs. search rules)  -- delta-name-requires

@@ -7,22 +7,22 @@ use Rattle.parameters.proofs.Segments.{deltas_set}
 use Rattle.parameters.proofs.delta.slot_deltas.Statement.{statement}
 use Rattle.parameters.proofs.delta.slot_deltas.Tie as tie
 
-kept : tie.Need-returns
+kept : tie.Need-returns-then-codes-at-ne1
 unfolding slot_deltas
-kept c = (rw (ne_eqb _ 1 c.if1.true) finished, c.before.before.requires.1)
+kept c = (rw (ne_eqb _ 1 c.if-codes-at-ne1.true) finished, c.before.before.requires.1)
 
-new : tie.Need-returns-2
+new : tie.Need-returns
 unfolding slot_deltas
 new c =
     let t = c.before.before.before in
     let test = t.before.before in
     let entry = test.before.before in (
-      rw (eq-eqb _ 1 test.if1.false) (then _ t.new-deltas.ensures.0 finished),
-      deltas_set entry.args.deltas entry.args.slot _ entry.requires.1 t.new-deltas.ensures.1,
+      rw (eq-eqb _ 1 test.if-codes-at-ne1.false) (then _ t.new_deltas-new.ensures.0 finished),
+      deltas_set entry.args.deltas entry.args.slot _ entry.requires.1 t.new_deltas-new.ensures.1,
     )
 
-pub slot-deltas-spec : {M : Type 1} → statement M
-slot-deltas-spec =
+pub slot_deltas_spec : {M : Type 1} → statement M
+slot_deltas_spec =
     tie.close
     (tie.spec
     (λ c. search rules)  -- array-read-if1

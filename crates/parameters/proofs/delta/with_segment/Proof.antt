@@ -15,8 +15,8 @@ stored c =
     let two : at + 2 ≡ suc (suc at) = omega arith in
     (rw (add-one, two), codes_set a.segments a.seg a.offset a.len a.code c.requires.0.1 c.requires.1.1.1)
 
-pub with-segment-spec : {M : Type 1} → statement M
-with-segment-spec =
+pub with_segment_spec : {M : Type 1} → statement M
+with_segment_spec =
     tie.close
     (tie.spec
     (λ c. search rules)  -- mul-at

@@ -10,14 +10,14 @@ unfolding new_leak
 reads c =
     let t2 = c.before.before.before.before in
     let t1 = t2.before.before.before.before in (
-      then _ (rw t1.before.one.ensures at t1.take.ensures.0)
-          (then _ (rw t2.before.one2.ensures at t2.take2.ensures.0)
+      then _ (rw t1.before.one.ensures at t1.take-cplfleak.ensures.0)
+          (then _ (rw t2.before.one-2.ensures at t2.take-cplsleak.ensures.0)
           finished),
-      record { cplfleak = t1.take.ensures.1; cplsleak = t2.take2.ensures.1 },
+      record { cplfleak = t1.take-cplfleak.ensures.1; cplsleak = t2.take-cplsleak.ensures.1 },
     )
 
-pub new-leak-spec : {M : Type 1} → statement M
-new-leak-spec =
+pub new_leak_spec : {M : Type 1} → statement M
+new_leak_spec =
     tie.close
     (tie.spec
     (λ c κs. tt)  -- one-requires

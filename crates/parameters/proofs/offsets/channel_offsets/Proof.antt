@@ -8,29 +8,29 @@ use Rattle.slots.specs.Sound.{SoundOffsets}
 use Rattle.parameters.proofs.offsets.channel_offsets.Statement.{statement}
 use Rattle.parameters.proofs.offsets.channel_offsets.Tie as tie
 
-abbrev invariant-loop : tie.invariant-loop
-invariant-loop s rows₀ blk nfchans offsets₀ cursor₀ ch₀ rows offsets cursor ch =
+abbrev invariant-loop-ch : tie.invariant-loop-ch
+invariant-loop-ch s rows₀ blk nfchans offsets₀ cursor₀ ch₀ rows offsets cursor ch =
     Turns (channel_offset blk) 0 nfchans offsets₀ s cursor₀ rows₀ ch offsets cursor rows × SoundOffsets offsets
 
-abbrev decreases-loop : tie.decreases-loop
-decreases-loop s rows₀ blk nfchans offsets₀ cursor₀ ch₀ rows offsets cursor ch = nfchans - ch
+abbrev decreases-loop-ch : tie.decreases-loop-ch
+decreases-loop-ch s rows₀ blk nfchans offsets₀ cursor₀ ch₀ rows offsets cursor ch = nfchans - ch
 
-again : tie.Need-loop-preserved invariant-loop decreases-loop
+again : tie.Need-loop-ch-preserved invariant-loop-ch decreases-loop-ch
 unfolding channel_offset
 again c =
     let t = c.before.before.before in
     let test = t.before.before in
-    (turn test.before.loop.invariant.0 test.loop-test.true t.fine-offset.ensures.0, t.fine-offset.ensures.1)
+    (turn test.before.loop-ch.invariant.0 test.loop-ch-test.true t.fine_offset-fine.ensures.0, t.fine_offset-fine.ensures.1)
 
-reads : tie.Need-returns invariant-loop decreases-loop
-reads c = let inv = c.before.loop.invariant in (ends inv.0 c.loop-test.false, inv.1)
+reads : tie.Need-returns invariant-loop-ch decreases-loop-ch
+reads c = let inv = c.before.loop-ch.invariant in (ends inv.0 c.loop-ch-test.false, inv.1)
 
-pub channel-offsets-spec : {M : Type 1} → statement M
-channel-offsets-spec =
+pub channel_offsets_spec : {M : Type 1} → statement M
+channel_offsets_spec =
     tie.close
     (tie.spec
-    invariant-loop
-    decreases-loop
+    invariant-loop-ch
+    decreases-loop-ch
     (λ c. (begins, c.before.requires.1))  -- loop_holds
     (λ c κs. search rules)  -- fine-offset-requires
     (λ c. search rules)  -- add-ch

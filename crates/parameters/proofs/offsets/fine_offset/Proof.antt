@@ -15,18 +15,18 @@ reads c =
     let t1 = t2.before.before.before.before in
     let start = t1.before.before.before.before in
     let old = start.requires.1 in (
-      then _ (rw t1.before.nth.ensures at t1.take.ensures.0)
-          (then _ (rw t2.before.nth2.ensures at t2.take2.ensures.0)
+      then _ (rw t1.before.nth.ensures at t1.take-fsnroffst.ensures.0)
+          (then _ (rw t2.before.nth-2.ensures at t2.take-fgaincod.ensures.0)
           finished),
       record {
         csnroffst = old.csnroffst;
-        fsnroffst = every_set (λ x. x < 16) 0 start.args.old.fsnroffst old.fsnroffst start.args.slot _ t1.take.ensures.1;
-        fgaincod = every_set (λ x. x < 8) 0 start.args.old.fgaincod old.fgaincod start.args.slot _ t2.take2.ensures.1;
+        fsnroffst = every_set (λ x. x < 16) 0 start.args.old.fsnroffst old.fsnroffst start.args.slot _ t1.take-fsnroffst.ensures.1;
+        fgaincod = every_set (λ x. x < 8) 0 start.args.old.fgaincod old.fgaincod start.args.slot _ t2.take-fgaincod.ensures.1;
       },
     )
 
-pub fine-offset-spec : {M : Type 1} → statement M
-fine-offset-spec =
+pub fine_offset_spec : {M : Type 1} → statement M
+fine_offset_spec =
     tie.close
     (tie.spec
     (λ c κs. tt)  -- nth-requires

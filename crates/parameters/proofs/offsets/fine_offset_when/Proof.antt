@@ -4,11 +4,11 @@ use Rattle.syntax.proofs.Sequence.{finished}
 use Rattle.parameters.proofs.offsets.fine_offset_when.Statement.{statement}
 use Rattle.parameters.proofs.offsets.fine_offset_when.Tie as tie
 
-pub fine-offset-when-spec : {M : Type 1} → statement M
-fine-offset-when-spec =
+pub fine_offset_when_spec : {M : Type 1} → statement M
+fine_offset_when_spec =
     tie.close
     (tie.spec
     (λ c κs. search rules)  -- fine-offset-requires
     (λ c. search rules)  -- same-length
-    (λ c. let t = c.before in (rw t.before.before.if1.true t.fine-offset.ensures.0, t.fine-offset.ensures.1))  -- returns
-    (λ c. (rw c.if1.false finished, c.before.before.requires.1)))  -- returns-2
+    (λ c. let t = c.before in (rw t.before.before.if-used.true t.fine_offset.ensures.0, t.fine_offset.ensures.1))  -- returns
+    (λ c. (rw c.if-used.false finished, c.before.before.requires.1)))  -- returns-2

@@ -12,15 +12,15 @@ reads c =
     let t3 = t4.before.before.before in
     let t2 = t3.before.before.before in
     let t1 = t2.before.before.before.before in (
-      then _ (rw t1.before.one.ensures at t1.take.ensures.0)
-          (then _ t2.fine-offset-when.ensures.0
-          (then _ t3.channel-offsets.ensures.0
-          t4.fine-offset-when2.ensures.0)),
-      t4.fine-offset-when2.ensures.1,
+      then _ (rw t1.before.one.ensures at t1.take-csnroffst.ensures.0)
+          (then _ t2.fine_offset_when-cpl.ensures.0
+          (then _ t3.channel_offsets-channels.ensures.0
+          t4.fine_offset_when.ensures.0)),
+      t4.fine_offset_when.ensures.1,
     )
 
-pub new-offsets-spec : {M : Type 1} → statement M
-new-offsets-spec =
+pub new_offsets_spec : {M : Type 1} → statement M
+new_offsets_spec =
     tie.close
     (tie.spec
     (λ c κs. tt)  -- one-requires

@@ -5,21 +5,21 @@ use Rattle.parameters.specs.Parameters.{offsets}
 use Rattle.parameters.proofs.offsets.offsets.Statement.{statement}
 use Rattle.parameters.proofs.offsets.offsets.Tie as tie
 
-new : tie.Need-returns
+new : tie.Need-returns-then-snroffste
 unfolding offsets
 new c =
     let t2 = c.before in
     let t1 = t2.before.before.before.before.before in
-    (then _ t1.announced.ensures (rw t2.before.before.if1.true t2.new-offsets.ensures.0), t2.new-offsets.ensures.1)
+    (then _ t1.announced-snroffste.ensures (rw t2.before.before.if-snroffste.true t2.new_offsets.ensures.0), t2.new_offsets.ensures.1)
 
-kept : tie.Need-returns-2
+kept : tie.Need-returns
 unfolding offsets
 kept c =
     let t1 = c.before.before.before in
-    (then _ t1.announced.ensures (rw c.if1.false finished), t1.before.before.before.requires.1)
+    (then _ t1.announced-snroffste.ensures (rw c.if-snroffste.false finished), t1.before.before.before.requires.1)
 
-pub offsets-spec : {M : Type 1} → statement M
-offsets-spec =
+pub offsets_spec : {M : Type 1} → statement M
+offsets_spec =
     tie.close
     (tie.spec
     (λ c κs. search rules)  -- announced-requires

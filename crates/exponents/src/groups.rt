@@ -60,7 +60,7 @@ fn spread(row: &mut [i16; 256], at: usize, strategy: u8, three: Three)
 }
 
 // The groups of a set: the block, name and index that they are recorded with, their strategy, and the first bin.
-#[derive(Drop)]
+#[derive(Clone, Copy)]
 pub(crate) struct Grouping {
     pub(crate) blk: u8,
     pub(crate) name: u8,

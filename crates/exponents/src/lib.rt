@@ -21,7 +21,7 @@ use syntax::Cursor;
 use syntax::refusals::{NO_COUPLING_EXPONENTS, NO_LFE_EXPONENTS};
 
 // What says which sets a block has: its number, the channels and LFE of the frame, coupling and the strategies, and the channels' ends.
-#[derive(Drop)]
+#[derive(Clone, Copy)]
 pub struct Layout {
     pub blk: u8,
     pub nfchans: u8,

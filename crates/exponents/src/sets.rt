@@ -15,7 +15,7 @@ use syntax::readers::take;
 use syntax::{Cursor, names};
 
 // A set: in which block, of which slot, by which strategy, from bin `start` up to, not including, `end`.
-#[derive(Drop)]
+#[derive(Clone, Copy)]
 pub(crate) struct Set {
     pub(crate) blk: u8,
     pub(crate) slot: u8,

@@ -77,7 +77,7 @@ pub(crate) fn fault(group: u32) -> Refusal
 }
 
 // Three exponents, or whether they are bad.
-#[derive(Drop)]
+#[derive(Clone, Copy)]
 pub(crate) struct Three {
     pub(crate) x: u32,
     pub(crate) y: u32,

@@ -13,76 +13,57 @@ use Rattle.exponents.proofs.Kept.{all, after, of_slot}
 use Rattle.exponents.proofs.exponents.Statement.{statement}
 use Rattle.exponents.proofs.exponents.Tie as tie
 
-abbrev invariant-loop : tie.invariant-loop
-invariant-loop s rows₀ exps₀ layout strategies covered₀ cursor₀ ch₀ last rows exps covered cursor ch =
+abbrev invariant-loop-ch : tie.invariant-loop-ch
+invariant-loop-ch s rows₀ exps₀ layout strategies covered₀ cursor₀ ch₀ last rows exps covered cursor ch =
     Turns (channel_exponents layout.blk layout.strategies.chexpstr layout.ends) 0 layout.nfchans (record { cover = covered₀; exps = exps₀ }) s cursor₀ rows₀
     ch (record { cover = covered; exps = exps }) cursor rows
     × SoundExps exps × Keeps (ReusedBy layout.strategies) exps₀ exps
 
-abbrev decreases-loop : tie.decreases-loop
-decreases-loop s rows₀ exps₀ layout strategies covered₀ cursor₀ ch₀ last rows exps covered cursor ch = layout.nfchans - ch
+abbrev decreases-loop-ch : tie.decreases-loop-ch
+decreases-loop-ch s rows₀ exps₀ layout strategies covered₀ cursor₀ ch₀ last rows exps covered cursor ch = layout.nfchans - ch
 
-coupling : tie.Need-slot-exponents-if-requires invariant-loop decreases-loop
+coupling : tie.Need-slot_exponents_if-e-requires invariant-loop-ch decreases-loop-ch
 coupling c κs =
-    let past = c.before.before in
-    let pre = past.before.before.before.before.before.requires in
-    (omega arith, ((pre.1.0.1.0.cplexpstr, omega (arith, pre.1.0.0, past.past-coupled.ensures, past.before.first_coupled_lem.ensures)), pre.1.1))
+    let pre = c.requires in
+    (omega arith, ((pre.1.0.1.0.cplexpstr, omega (arith, pre.1.0.0, c.past_coupled.ensures, c.first_coupled.ensures)), pre.1.1))
 
--- where the loop stands, and what was required
-module _ (c : tie.At-loop invariant-loop decreases-loop) where
-  abbrev coupled : tie.After-slot-exponents-if invariant-loop decreases-loop
-  coupled = c.before.before.before.before
+below : (c : tie.In-loop-ch invariant-loop-ch decreases-loop-ch) → c.loop-ch.ch < 5
+below c = omega (arith, c.loop-ch-test.true, c.requires.0)
 
-  abbrev past : tie.After-past-coupled invariant-loop decreases-loop
-  past = coupled.before.before.before
-
-  abbrev start : tie.Start invariant-loop decreases-loop
-  start = past.before.before.before.before.before
-
-below : (c : tie.In-loop invariant-loop decreases-loop) → c.before.loop.ch < 5
-below c = omega (arith, c.loop-test.true, (start c.before).pre.0)
-
-channel : tie.Need-channel-exponents-requires invariant-loop decreases-loop
+channel : tie.Need-channel_exponents-next-requires invariant-loop-ch decreases-loop-ch
 channel c κs =
-    let test = c.before.before in
-    ((below test, (start test.before).pre.1.0.1), test.before.loop.invariant.1)
+    ((below c.before.before, c.requires.1.0.1), c.loop-ch.invariant.1)
 
-again : tie.Need-loop-preserved invariant-loop decreases-loop
+again : tie.Need-loop-ch-preserved invariant-loop-ch decreases-loop-ch
 again c =
-    let t = c.before.before.before in
-    let test = t.before.before.before in
-    let inv = test.before.loop.invariant in
-    (turn inv.0 test.loop-test.true t.channel-exponents.ensures.0, t.channel-exponents.ensures.1.0, after inv.2 t.channel-exponents.ensures.1.1)
+    let inv = c.loop-ch.invariant in
+    (turn inv.0 c.loop-ch-test.true c.channel_exponents-next.ensures.0, c.channel_exponents-next.ensures.1.0, after inv.2 c.channel_exponents-next.ensures.1.1)
 
-lfe : tie.Need-slot-exponents-if-requires-2 invariant-loop decreases-loop
+lfe : tie.Need-slot_exponents_if-requires invariant-loop-ch decreases-loop-ch
 lfe c κs =
-    let test = c.before.before in
-    (omega arith, (omega (arith, (start test.before).pre.1.0.1.0.lfeexpstr), test.before.loop.invariant.1))
+    (omega arith, (omega (arith, c.requires.1.0.1.0.lfeexpstr), c.loop-ch.invariant.1))
 
-reads : tie.Need-returns invariant-loop decreases-loop
+reads : tie.Need-returns invariant-loop-ch decreases-loop-ch
 unfolding exponents
 reads c =
-    let t = c.before in
-    let test = t.before.before.before in
-    let at = test.before in
-    let inv = at.loop.invariant in
-    let s = (start at).args.layout.strategies in
-    let first = (coupled at).slot-exponents-if.ensures in
-    let last = t.slot-exponents-if2.ensures in (
-      rw (← (past at).before.first_coupled_lem.ensures, ← (past at).past-coupled.ensures) (then _ first.0 (then _ (ends inv.0 test.loop-test.false) last.0)),
+    let inv = c.loop-ch.invariant in
+    let s = c.args.layout.strategies in
+    let first = c.slot_exponents_if-e.ensures in
+    let last = c.slot_exponents_if.ensures in (
+      rw (← c.first_coupled.ensures, ← c.past_coupled.ensures) (then _ first.0 (then _ (ends inv.0 c.loop-ch-test.false) last.0)),
       (last.1.0, after (of_slot s CPL s.cplexpstr refl first.1.1) (after inv.2 (of_slot s LFE s.lfeexpstr refl last.1.1))),
     )
 
-pub exponents-spec : {M : Type 1} → statement M
-exponents-spec =
+pub exponents_spec : {M : Type 1} → statement M
+exponents_spec =
     tie.close
     (tie.spec
-    invariant-loop
-    decreases-loop
+    invariant-loop-ch
+    decreases-loop-ch
     (λ c κs. search rules)  -- first-coupled-requires
     (λ c κs. search rules)  -- past-coupled-requires
     coupling
-    (λ c. (begins, c.before.before.before.slot-exponents-if.ensures.1.0, all))  -- loop_holds
+    (λ c. (begins, c.slot_exponents_if-e.ensures.1.0, all))  -- loop_holds
     channel
     (λ c. omega (arith, below c.before.before.before.before.before.before))  -- add-ch
     (λ c. search rules)  -- loop-less

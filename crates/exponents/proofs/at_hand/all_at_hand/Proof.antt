@@ -5,8 +5,8 @@ use borrow.Author.Rules.{rules}
 use Rattle.exponents.proofs.at_hand.all_at_hand.Statement.{statement}
 use Rattle.exponents.proofs.at_hand.all_at_hand.Tie as tie
 
-pub all-at-hand-spec : {M : Type 1} → statement M
-all-at-hand-spec =
+pub all_at_hand_spec : {M : Type 1} → statement M
+all_at_hand_spec =
     tie.close
     (tie.spec
     (λ c e. absurd (true≢false (sym e)))  -- returns

@@ -10,28 +10,24 @@ use Rattle.syntax.proofs.Sequence.{taken}
 use Rattle.exponents.proofs.at_hand.take_group.Statement.{statement}
 use Rattle.exponents.proofs.at_hand.take_group.Tie as tie
 
-fits : tie.Need-write-group-requires
+fits : tie.Need-write_group-requires
 fits c κs =
-    let v = c.before.before in
-    let pre = v.before.before.before.requires in
-    (omega (arith, pre.0.room), (pre.1, (omega (arith, pre.0.frame), rw v.get-at-hand.ensures (value_lt _ _ 7))))
+    let pre = c.requires in
+    (omega (arith, pre.0.room), (pre.1, (omega (arith, pre.0.frame), rw c.get_at_hand-value.ensures (value_lt _ _ 7))))
 
 returns : tie.Need-returns
 returns c =
-    let w = c.before in
-    let v = w.before.before.before in
-    let start = v.before.before.before in
-    let a = start.args in
-    let h = start.requires.0 in
+    let a = c.args in
+    let h = c.requires.0 in
     let item = part_of a.set.blk a.set.name a.set.index a.n in
-    let value = v.get-at-hand.result in
-    let read = v.get-at-hand.ensures in (
-      taken (rw w.write-group.ensures (recorded_fits item 7 value h.goes (le-ltb _ _ h.frame) (entered_row item 7 value h.goes (a.c.at + 7 * a.n) (omega (arith, h.room))))) w.write-group.auto.0 read,
+    let value = c.get_at_hand-value.result in
+    let read = c.get_at_hand-value.ensures in (
+      taken (rw c.write_group.ensures (recorded_fits item 7 value h.goes (le-ltb _ _ h.frame) (entered_row item 7 value h.goes (a.c.at + 7 * a.n) (omega (arith, h.room))))) c.write_group.auto.rows read,
       rw read (value_lt _ _ 7),
     )
 
-pub take-group-spec : {M : Type 1} → statement M
-take-group-spec =
+pub take_group_spec : {M : Type 1} → statement M
+take_group_spec =
     tie.close
     (tie.spec
     (λ c. search rules)  -- cast-start

@@ -23,8 +23,8 @@ shown_part : (n : ℕ) → n < 255 → shown n ≡ pos n
 unfolding shown
 shown_part n h = rw (ne_eqb n 255 (omega arith))
 
-pub write-group-spec : {M : Type 1} → statement M
-write-group-spec =
+pub write_group_spec : {M : Type 1} → statement M
+write_group_spec =
     tie.close
     (tie.spec
     (λ c. search rules)  -- cast-rows
@@ -70,6 +70,6 @@ write-group-spec =
       widened args.value (omega arith),
       widened args.n (omega arith),
       to_z-of_z {w = w32} {z = block.shown.result} (search rules),
-      to_z-of_z {w = w32} {z = c.shown2.result} (search rules),
+      to_z-of_z {w = w32} {z = c.shown-2.result} (search rules),
     )
-    (rw (block.shown.ensures, c.shown2.ensures, shown_none, shown_part args.n (omega arith)))))  -- returns
+    (rw (block.shown.ensures, c.shown-2.ensures, shown_none, shown_part args.n (omega arith)))))  -- returns

@@ -10,27 +10,23 @@ use Rattle.exponents.proofs.Kept.{all, others}
 use Rattle.exponents.proofs.by_slot.slot_exponents.Statement.{statement}
 use Rattle.exponents.proofs.by_slot.slot_exponents.Tie as tie
 
-reused : tie.Need-returns
+reused : tie.Need-returns-then-set-eq0
 unfolding slot_exponents
 reused c =
-    let test = c.before in
-    (λ cover is. rw (eq-eqb _ 0 test.if1.true) (then _ (judged c.refuse-if.ensures (ap not is)) finished), (test.before.before.before.requires.1.1, all))
+    (λ cover is. rw (eq-eqb _ 0 c.if-set-eq0.true) (then _ (judged c.refuse_if.ensures (ap not is)) finished), (c.requires.1.1, all))
 
-new : tie.Need-returns-2
+new : tie.Need-returns
 unfolding slot_exponents
 new c =
-    let t = c.before in
-    let test = t.before.before.before.before in
-    let entry = test.before.before.before in
-    let exps = entry.args.exps.now in
-    let slot = entry.args.set.slot in
-    let row = t.exponent-set.new.1.1.1.0 in (
-      λ cover is. rw (ne_eqb _ 0 test.if1.false) (then _ finished (then _ t.exponent-set.ensures.0 finished)),
-      (exps_set exps slot row entry.requires.1.1 t.exponent-set.ensures.1, others exps slot entry.args.set.strategy row test.if1.false),
+    let exps = c.args.exps.now in
+    let slot = c.args.set.slot in
+    let row = c.exponent_set.new.row in (
+      λ cover is. rw (ne_eqb _ 0 c.if-set-eq0.false) (then _ finished (then _ c.exponent_set.ensures.0 finished)),
+      (exps_set exps slot row c.requires.1.1 c.exponent_set.ensures.1, others exps slot c.args.set.strategy row c.if-set-eq0.false),
     )
 
-pub slot-exponents-spec : {M : Type 1} → statement M
-slot-exponents-spec =
+pub slot_exponents_spec : {M : Type 1} → statement M
+slot_exponents_spec =
     tie.close
     (tie.spec
     (λ c κs. search rules)  -- refuse-if-requires

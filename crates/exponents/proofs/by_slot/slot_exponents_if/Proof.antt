@@ -5,15 +5,12 @@ use Rattle.exponents.proofs.Kept.{all}
 use Rattle.exponents.proofs.by_slot.slot_exponents_if.Statement.{statement}
 use Rattle.exponents.proofs.by_slot.slot_exponents_if.Tie as tie
 
-reads : tie.Need-returns
+reads : tie.Need-returns-then-present
 reads c =
-    let t = c.before.before in
-    let k = t.before in
-    let test = k.before.before.before in
-    (rw (test.if1.true, c.covering.ensures) (t.slot-exponents.ensures.0 _ k.covers.ensures), t.slot-exponents.ensures.1)
+    (rw (c.if-present.true, c.covering.ensures) (c.slot_exponents-cursor.ensures.0 _ c.covers.ensures), c.slot_exponents-cursor.ensures.1)
 
-pub slot-exponents-if-spec : {M : Type 1} → statement M
-slot-exponents-if-spec =
+pub slot_exponents_if_spec : {M : Type 1} → statement M
+slot_exponents_if_spec =
     tie.close
     (tie.spec
     (λ c κs. search rules)  -- covers-requires
@@ -21,4 +18,4 @@ slot-exponents-if-spec =
     (λ c κs. search rules)  -- covering-requires
     (λ c. search rules)  -- same-length
     reads
-    (λ c. (rw c.if1.false finished, (c.before.before.requires.1.1, all))))  -- returns-2
+    (λ c. (rw c.if-present.false finished, (c.requires.1.1, all))))  -- returns-2

@@ -5,10 +5,10 @@ use Rattle.exponents.proofs.Bins.{one_bin}
 use Rattle.exponents.proofs.groups.bins_each.Statement.{statement}
 use Rattle.exponents.proofs.groups.bins_each.Tie as tie
 
-pub bins-each-spec : {M : Type 1} → statement M
-bins-each-spec =
+pub bins_each_spec : {M : Type 1} → statement M
+bins_each_spec =
     tie.close
     (tie.spec
-    (λ c. rw c.match.keys1)  -- returns
-    (λ c. rw c.match.keys2)  -- returns-2
-    (λ c. sym (one_bin _ (omega (arith, c.match.rest.1, c.match.rest.0.1)))))  -- returns-3
+    (λ c. rw c.in-2.is)  -- returns
+    (λ c. rw c.in-3.is)  -- returns-2
+    (λ c. sym (one_bin _ (omega (arith, c.in_default.in_default-own.rest.1, c.in_default.in_default-own.rest.0.1)))))  -- returns-3

@@ -10,13 +10,13 @@ use Rattle.exponents.proofs.Bins.{one_bin, bins_bounds}
 use Rattle.exponents.proofs.groups.repeat.Statement.{statement}
 use Rattle.exponents.proofs.groups.repeat.Tie as tie
 
-one : tie.Need-returns
-one c = let a = c.before.args in rw (to_z_pos w16 {n = a.exponent} (omega arith), one_bin a.strategy c.if1.true)
+one : tie.Need-returns-then-strategy-lt2
+one c = let a = c.before.args in rw (to_z_pos w16 {n = a.exponent} (omega arith), one_bin a.strategy c.if-strategy-lt2.true)
 
-two : tie.Need-returns-2
-two c = let a = c.before.before.args in rw (to_z_pos w16 {n = a.exponent} (omega arith), c.if2.true, add-one)
+two : tie.Need-returns-then-strategy-eq2
+two c = let a = c.before.before.args in rw (to_z_pos w16 {n = a.exponent} (omega arith), c.if-strategy-eq2.true, add-one)
 
-four : tie.Need-returns-3
+four : tie.Need-returns
 four c =
     let a = c.before.before.args in
     let e : a.strategy ≡ 3 = omega arith in
@@ -24,8 +24,8 @@ four c =
     let three : a.at + 3 ≡ suc (suc (suc a.at)) = omega arith in
     rw (to_z_pos w16 {n = a.exponent} (omega arith), e, add-one, two, three)
 
-pub repeat-spec : {M : Type 1} → statement M
-repeat-spec =
+pub repeat_spec : {M : Type 1} → statement M
+repeat_spec =
     tie.close
     (tie.spec
     (λ c. search rules)  -- cast-e

@@ -9,20 +9,17 @@ use Rattle.exponents.proofs.groups.spread.Tie as tie
 
 returns : tie.Need-returns
 returns c =
-    let r2 = c.before.before in
-    let r1 = r2.before.before in
-    let b = r1.before.before in
-    let a = b.before.args in
-    let pre = b.before.requires in
+    let a = c.args in
+    let pre = c.requires in
     let n = bins_each a.strategy in
-    let second = a.at + b.bins-each.result in
-    let s1 = row_sets a.row.now a.at n a.three.x r1.repeat.ensures pre.1.1 pre.1.0.0 in
-    let s2 = row_sets r1.repeat.new.0 second n a.three.y r2.repeat2.ensures s1 pre.1.0.1.0 in
-    let s3 = row_sets r2.repeat2.new.0 (second + b.bins-each.result) n a.three.z c.repeat3.ensures s2 pre.1.0.1.1 in
-    (rw (c.repeat3.ensures, r2.repeat2.ensures, r1.repeat.ensures, b.bins-each.ensures) (sets_three n a.row.now a.at (pos a.three.x) (pos a.three.y) (pos a.three.z)), s3)
+    let second = a.at + c.bins_each-bins.result in
+    let s1 = row_sets a.row.now a.at n a.three.x c.repeat.ensures pre.1.1 pre.1.0.0 in
+    let s2 = row_sets c.repeat.new.row second n a.three.y c.repeat-2.ensures s1 pre.1.0.1.0 in
+    let s3 = row_sets c.repeat-2.new.row (second + c.bins_each-bins.result) n a.three.z c.repeat-3.ensures s2 pre.1.0.1.1 in
+    (rw (c.repeat-3.ensures, c.repeat-2.ensures, c.repeat.ensures, c.bins_each-bins.ensures) (sets_three n a.row.now a.at (pos a.three.x) (pos a.three.y) (pos a.three.z)), s3)
 
-pub spread-spec : {M : Type 1} → statement M
-spread-spec =
+pub spread_spec : {M : Type 1} → statement M
+spread_spec =
     tie.close
     (tie.spec
     (λ c κs. search rules)  -- bins-each-requires

@@ -6,35 +6,23 @@ use Rattle.exponents.proofs.Bins.{within}
 use Rattle.exponents.proofs.sets.exponent_set.Statement.{statement}
 use Rattle.exponents.proofs.sets.exponent_set.Tie as tie
 
-fits : tie.Need-all-groups-requires
+fits : tie.Need-all_groups-unpacked-requires
 fits c κs =
-    let first = c.before.before in
-    let count = first.before.before in
-    let begun = count.before in
-    let entry = begun.before.before.before.before.before.before.before.before.before in
-    let pre = entry.requires in
-    let set = entry.args.set in
+    let pre = c.requires in
+    let set = c.args.set in
     let all = within set.slot set.strategy set.start set.end pre.0 pre.1.0 pre.1.1 in
-    (pre.0, (rw (first.first-grouped.ensures, count.group-count.ensures) all, begun.first-exponent.ensures.1))
+    (pre.0, (rw (c.first_grouped.ensures, c.group_count-count.ensures) all, c.first_exponent-last.ensures.1))
 
 reads : tie.Need-returns
 unfolding exponent_set
-reads c =
-    let g = c.before.before in
-    let first = g.before.before.before in
-    let name = first.before in
-    let count = name.before in
-    let begun = count.before in
-    let t = begun.before.before.before in
-    let n = t.before.before.before in
-    let i = n.before in (
-      rw (← i.exponent-index.ensures, ← n.name_of.ensures, ← name.name-of2.ensures, ← count.group-count.ensures, ← first.first-grouped.ensures)
-          (then _ (rw t.before.nth.ensures at t.take.ensures.0) (rw (← begun.first-exponent.ensures.0) (then _ g.all-groups.ensures.0 finished))),
-      g.all-groups.ensures.1.row,
-    )
+reads c = (
+  rw (← c.exponent_index-index.ensures, ← c.name_of-name.ensures, ← c.name_of.ensures, ← c.group_count-count.ensures, ← c.first_grouped.ensures)
+      (then _ (rw c.nth.ensures at c.take-absexp.ensures.0) (rw (← c.first_exponent-last.ensures.0) (then _ c.all_groups-unpacked.ensures.0 finished))),
+  c.all_groups-unpacked.ensures.1.row,
+)
 
-pub exponent-set-spec : {M : Type 1} → statement M
-exponent-set-spec =
+pub exponent_set_spec : {M : Type 1} → statement M
+exponent_set_spec =
     tie.close
     (tie.spec
     (λ c κs. search rules)  -- exponent-index-requires

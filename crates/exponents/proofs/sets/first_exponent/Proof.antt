@@ -10,17 +10,17 @@ use Rattle.slots.proofs.Entries.{zeros, row_set}
 use Rattle.exponents.proofs.sets.first_exponent.Statement.{statement}
 use Rattle.exponents.proofs.sets.first_exponent.Tie as tie
 
-coupling : tie.Need-returns
-coupling c = (rw (eq-eqb _ 5 c.if1.true), record { last = omega arith; row = zeros })
+coupling : tie.Need-returns-then-slot-eq-CPL
+coupling c = (rw (eq-eqb _ 5 c.if-slot-eq-CPL.true), record { last = omega arith; row = zeros })
 
-channel : tie.Need-returns-2
+channel : tie.Need-returns
 channel c =
     let absexp = c.before.before.args.absexp in
     rw (to_z_pos w16 {n = absexp} (omega arith))
-    (rw (ne_eqb _ 5 c.if1.false), record { last = omega arith; row = row_set (replicate 256 (pos 0)) 0 absexp zeros (omega arith) })
+    (rw (ne_eqb _ 5 c.if-slot-eq-CPL.false), record { last = omega arith; row = row_set (replicate 256 (pos 0)) 0 absexp zeros (omega arith) })
 
-pub first-exponent-spec : {M : Type 1} → statement M
-first-exponent-spec =
+pub first_exponent_spec : {M : Type 1} → statement M
+first_exponent_spec =
     tie.close
     (tie.spec
     (λ c. search rules)  -- mul_result

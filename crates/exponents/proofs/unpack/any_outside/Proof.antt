@@ -63,22 +63,22 @@ module _ (three : ℕ) (near : NearThree three) where
     third = rw (bit_3 more, plus_3) (unmarked (three / 65536) h.each.2).1;
   }
 
-marked : tie.Need-returns
+marked : tie.Need-returns-then-is_marked
 marked c =
     let s = c.before.before in
-    (λ e. absurd (true≢false e), λ h. absurd (true≢false (sym c.if1.true ∙ c.before.is-marked.ensures.1 (no_mark s.args.three s.requires h))))
+    (λ e. absurd (true≢false e), λ h. absurd (true≢false (sym c.if-is_marked.true ∙ c.before.is_marked.ensures.1 (no_mark s.args.three s.requires h))))
 
-not_marked : tie.Need-returns-2
+not_marked : tie.Need-returns
 not_marked c =
     let b = c.before.before in
     let s = b.before in
     let t = s.args.three in (
-      λ e. three_inside t s.requires (b.is-marked.ensures.0 c.before.if1.false) (c.is-marked2.ensures.0 e),
-      λ h. c.is-marked2.ensures.1 (no_mark_more t s.requires h),
+      λ e. three_inside t s.requires (b.is_marked.ensures.0 c.before.if-is_marked.false) (c.is_marked-2.ensures.0 e),
+      λ h. c.is_marked-2.ensures.1 (no_mark_more t s.requires h),
     )
 
-pub any-outside-spec : {M : Type 1} → statement M
-any-outside-spec =
+pub any_outside_spec : {M : Type 1} → statement M
+any_outside_spec =
     tie.close
     (tie.spec
     (λ c κs. search rules)  -- is-marked-requires

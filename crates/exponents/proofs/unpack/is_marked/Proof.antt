@@ -4,11 +4,11 @@ use mathlib.Core.Path.{refl}
 use Rattle.exponents.proofs.unpack.is_marked.Statement.{statement}
 use Rattle.exponents.proofs.unpack.is_marked.Tie as tie
 
-pub is-marked-spec : {M : Type 1} → statement M
-is-marked-spec =
+pub is_marked_spec : {M : Type 1} → statement M
+is_marked_spec =
     tie.close
     (tie.spec
-    (λ c. (λ e. absurd (true≢false e), λ u. absurd (c.if1.true u.first)))  -- returns
-    (λ c. (λ e. absurd (true≢false e), λ u. absurd (c.if2.true u.second)))  -- returns-2
-    (λ c. (λ e. absurd (true≢false e), λ u. absurd (c.if3.true u.third)))  -- returns-3
-    (λ c. (λ e. record { first = c.before.before.if1.false; second = c.before.if2.false; third = c.if3.false }, λ u. refl)))  -- returns-4
+    (λ c. (λ e. absurd (true≢false e), λ u. absurd (c.if-three-ne0.true u.first)))  -- returns
+    (λ c. (λ e. absurd (true≢false e), λ u. absurd (c.if-three-ne0-2.true u.second)))  -- returns-2
+    (λ c. (λ e. absurd (true≢false e), λ u. absurd (c.if-three-ne0-3.true u.third)))  -- returns-3
+    (λ c. (λ e. record { first = c.before.before.if-three-ne0.false; second = c.before.if-three-ne0-2.false; third = c.if-three-ne0-3.false }, λ u. refl)))  -- returns-4

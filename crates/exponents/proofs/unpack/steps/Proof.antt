@@ -1,5 +1,5 @@
 -- `exponents::unpack::steps` meets its contract: one test, computed over the whole table. Assumes nothing.
-use mathlib.Core.Bool.{Bool, true, ◌&&◌, cond}
+use mathlib.Core.Bool.{Bool, true, false, ◌&&◌, cond}
 use mathlib.Core.List.{List, [], ◌∷◌}
 use mathlib.Core.Path.{◌≡◌, refl, ap, ◌∙◌}
 use Prim.Native.Nat.{ℕ, zero, suc, ◌+◌, ◌*◌, ◌/◌, ◌%◌, ◌<◌}
@@ -23,6 +23,7 @@ right group (d ∷ ds) = eqb d (entry group) && right (suc group) ds
 
 true_of : (b : Bool) → T b → b ≡ true
 true_of true t = λ i. true
+true_of false t = elim t [ ]
 
 right_at : (first : ℕ) (l : List ℕ) → T (right first l) → (k : ℕ) → k < length l → get_or l k 0 ≡ entry (first + k)
 right_at first [] t k h = absurd (not-suc-le-zero h)
@@ -39,5 +40,5 @@ module _ (l : List ℕ) (t : T (right 0 l)) (long : length l ≡ 128) where
     none = λ group low high. at group high ∙ rw (lt-ltb 124 group low);
   }
 
-pub steps-spec : {M : Type 1} → statement M
-steps-spec = tie.close (tie.spec (λ c. all_right _ tt refl))
+pub steps_spec : {M : Type 1} → statement M
+steps_spec = tie.close (tie.spec (λ c. all_right _ tt refl))

@@ -18,7 +18,7 @@ pub struct ChannelFlags {
 }
 
 // The bandwidths in force: a channel's code counts once it was sent.
-#[derive(Drop)]
+#[derive(Clone, Copy)]
 pub struct Bandwidths {
     pub sent: [bool; 5],
     pub chbwcod: [u8; 5],

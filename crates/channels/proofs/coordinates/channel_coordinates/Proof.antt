@@ -6,33 +6,33 @@ use Rattle.channels.specs.Coupling.{channel_coordinates}
 use Rattle.channels.proofs.coordinates.channel_coordinates.Statement.{statement}
 use Rattle.channels.proofs.coordinates.channel_coordinates.Tie as tie
 
-sent : tie.Need-returns
+sent : tie.Need-returns-then-cplcoe
 unfolding channel_coordinates
 sent c =
     let t3 = c.before in
     let t2 = t3.before.before.before in
     let t1 = t2.before.before.before.before.before in
-    there _ _ _ t1.before.before.before.if1.true
-    (then _ (rw t1.before.nth.ensures at t1.flag.ensures)
-    (rw t2.before.before.before.if2.true
-    (then _ (then _ (rw t2.before.nth2.ensures at t2.note.ensures) t3.coordinates.ensures)
+    there _ _ _ t1.before.before.before.if-coupling-ch.true
+    (then _ (rw t1.before.nth.ensures at t1.flag-cplcoe.ensures)
+    (rw t2.before.before.before.if-cplcoe.true
+    (then _ (then _ (rw t2.before.nth-then-cplcoe.ensures at t2.note-mstrcplco.ensures) t3.coordinates-cursor.ensures)
     finished)))
 
-unsent : tie.Need-returns-2
+unsent : tie.Need-returns-else-cplcoe
 unfolding channel_coordinates
 unsent c =
     let t1 = c.before.before in
-    there _ _ _ t1.before.before.before.if1.true
-    (then _ (rw t1.before.nth.ensures at t1.flag.ensures)
-    (then _ (omitted _ _ c.if2.false)
+    there _ _ _ t1.before.before.before.if-coupling-ch.true
+    (then _ (rw t1.before.nth.ensures at t1.flag-cplcoe.ensures)
+    (then _ (omitted _ _ c.if-cplcoe.false)
     finished))
 
-uncoupled : tie.Need-returns-3
+uncoupled : tie.Need-returns-else-coupling-ch
 unfolding channel_coordinates
-uncoupled c = absent _ _ _ c.if1.false
+uncoupled c = absent _ _ _ c.if-coupling-ch.false
 
-pub channel-coordinates-spec : {M : Type 1} → statement M
-channel-coordinates-spec =
+pub channel_coordinates_spec : {M : Type 1} → statement M
+channel_coordinates_spec =
     tie.close
     (tie.spec
     (λ c. search rules)  -- element-copy-out-if1

@@ -7,33 +7,33 @@ use Rattle.channels.specs.Coupling.{phase_flags, coupling_coordinates}
 use Rattle.channels.proofs.coordinates.coupling_coordinates.Statement.{statement}
 use Rattle.channels.proofs.coordinates.coupling_coordinates.Tie as tie
 
-phased : tie.Need-returns
+phased : tie.Need-returns-then-phases_follow
 unfolding coupling_coordinates phase_flags
 phased c =
     let t3 = c.before in
     let t2 = t3.before.before.before.before in
     let t1 = t2.before.before.before in
-    there _ _ _ t1.before.before.if1.true
-    (then _ t1.sent-coordinates.ensures
-    (then _ (present _ _ (sym t2.phases-follow.ensures ∙ t3.before.before.before.if2.true) t3.flags.ensures)
+    there _ _ _ t1.before.before.if-coupling.true
+    (then _ t1.sent_coordinates-sent.ensures
+    (then _ (present _ _ (sym t2.phases_follow.ensures ∙ t3.before.before.before.if-phases_follow.true) t3.flags-cursor.ensures)
     finished))
 
-unphased : tie.Need-returns-2
+unphased : tie.Need-returns-else-phases_follow
 unfolding coupling_coordinates phase_flags
 unphased c =
     let t2 = c.before in
     let t1 = t2.before.before.before in
-    there _ _ _ t1.before.before.if1.true
-    (then _ t1.sent-coordinates.ensures
-    (then _ (omitted _ _ (sym t2.phases-follow.ensures ∙ c.if2.false))
+    there _ _ _ t1.before.before.if-coupling.true
+    (then _ t1.sent_coordinates-sent.ensures
+    (then _ (omitted _ _ (sym t2.phases_follow.ensures ∙ c.if-phases_follow.false))
     finished))
 
-uncoupled : tie.Need-returns-3
+uncoupled : tie.Need-returns-else-coupling
 unfolding coupling_coordinates
-uncoupled c = absent _ _ _ c.if1.false
+uncoupled c = absent _ _ _ c.if-coupling.false
 
-pub coupling-coordinates-spec : {M : Type 1} → statement M
-coupling-coordinates-spec =
+pub coupling_coordinates_spec : {M : Type 1} → statement M
+coupling_coordinates_spec =
     tie.close
     (tie.spec
     (λ c κs. search rules)  -- sent-coordinates-requires

@@ -9,28 +9,28 @@ use Rattle.channels.specs.Coupling.{channel_coordinates}
 use Rattle.channels.proofs.coordinates.sent_coordinates.Statement.{statement}
 use Rattle.channels.proofs.coordinates.sent_coordinates.Tie as tie
 
-abbrev invariant-loop : tie.invariant-loop
-invariant-loop s rows₀ blk nfchans coupling set₀ cursor₀ ch₀ rows set cursor ch =
+abbrev invariant-loop-ch : tie.invariant-loop-ch
+invariant-loop-ch s rows₀ blk nfchans coupling set₀ cursor₀ ch₀ rows set cursor ch =
     Turns (filling (channel_coordinates blk coupling)) 0 nfchans (replicate 5 false) s cursor₀ rows₀ ch set cursor rows
 
-abbrev decreases-loop : tie.decreases-loop
-decreases-loop s rows₀ blk nfchans coupling set₀ cursor₀ ch₀ rows set cursor ch = nfchans - ch
+abbrev decreases-loop-ch : tie.decreases-loop-ch
+decreases-loop-ch s rows₀ blk nfchans coupling set₀ cursor₀ ch₀ rows set cursor ch = nfchans - ch
 
-again : tie.Need-loop-preserved invariant-loop decreases-loop
+again : tie.Need-loop-ch-preserved invariant-loop-ch decreases-loop-ch
 again c =
     let t1 = c.before.before in
     let test = t1.before.before in
-    turn test.before.loop.invariant test.loop-test.true (then _ t1.channel-coordinates.ensures finished)
+    turn test.before.loop-ch.invariant test.loop-ch-test.true (then _ t1.channel_coordinates-sent.ensures finished)
 
-reads : tie.Need-returns invariant-loop decreases-loop
-reads c = ends c.before.loop.invariant c.loop-test.false
+reads : tie.Need-returns invariant-loop-ch decreases-loop-ch
+reads c = ends c.before.loop-ch.invariant c.loop-ch-test.false
 
-pub sent-coordinates-spec : {M : Type 1} → statement M
-sent-coordinates-spec =
+pub sent_coordinates_spec : {M : Type 1} → statement M
+sent_coordinates_spec =
     tie.close
     (tie.spec
-    invariant-loop
-    decreases-loop
+    invariant-loop-ch
+    decreases-loop-ch
     (λ c. begins)  -- loop_holds
     (λ c κs. search rules)  -- channel-coordinates-requires
     (λ c. search rules)  -- cast-set

@@ -10,29 +10,29 @@ use Rattle.channels.specs.Coupling.{coupled_channels}
 use Rattle.channels.proofs.coupling.coupled_channels.Statement.{statement}
 use Rattle.channels.proofs.coupling.coupled_channels.Tie as tie
 
-abbrev invariant-loop : tie.invariant-loop
-invariant-loop s rows₀ blk nfchans set₀ cursor₀ ch₀ rows set cursor ch =
+abbrev invariant-loop-ch : tie.invariant-loop-ch
+invariant-loop-ch s rows₀ blk nfchans set₀ cursor₀ ch₀ rows set cursor ch =
     Turns (filling (λ i. flag (nth blk Name.chincpl i))) 0 nfchans (replicate 5 false) s cursor₀ rows₀ ch set cursor rows
 
-abbrev decreases-loop : tie.decreases-loop
-decreases-loop s rows₀ blk nfchans set₀ cursor₀ ch₀ rows set cursor ch = nfchans - ch
+abbrev decreases-loop-ch : tie.decreases-loop-ch
+decreases-loop-ch s rows₀ blk nfchans set₀ cursor₀ ch₀ rows set cursor ch = nfchans - ch
 
-again : tie.Need-loop-preserved invariant-loop decreases-loop
+again : tie.Need-loop-ch-preserved invariant-loop-ch decreases-loop-ch
 again c =
     let t = c.before.before in
     let test = t.before.before.before in
-    turn test.before.loop.invariant test.loop-test.true (then _ (rw t.before.nth.ensures at t.flag.ensures) finished)
+    turn test.before.loop-ch.invariant test.loop-ch-test.true (then _ (rw t.before.nth.ensures at t.flag-chincpl.ensures) finished)
 
-reads : tie.Need-returns invariant-loop decreases-loop
+reads : tie.Need-returns invariant-loop-ch decreases-loop-ch
 unfolding coupled_channels
-reads c = ends c.before.loop.invariant c.loop-test.false
+reads c = ends c.before.loop-ch.invariant c.loop-ch-test.false
 
-pub coupled-channels-spec : {M : Type 1} → statement M
-coupled-channels-spec =
+pub coupled_channels_spec : {M : Type 1} → statement M
+coupled_channels_spec =
     tie.close
     (tie.spec
-    invariant-loop
-    decreases-loop
+    invariant-loop-ch
+    decreases-loop-ch
     (λ c. begins)  -- loop_holds
     (λ c κs. tt)  -- nth-requires
     (λ c κs. search rules)  -- flag-requires

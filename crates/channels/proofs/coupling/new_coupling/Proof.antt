@@ -1,5 +1,4 @@
 -- `channels::coupling::new_coupling` meets its contract: a `then` for each call. Assumes nothing.
-use native.Mathlib.Omega.{arith}
 use mathlib.Core.Path.{refl, ap}
 use lib.Dec.{ltb}
 use borrow.Author.Rules.{rules}
@@ -20,19 +19,19 @@ reads c =
     let t3 = t4.before.before.before.before in
     let t2 = t3.before.before.before.before in
     let t1 = t2.before.before.before.before in (
-      then _ t1.coupled-channels.ensures
-          (then _ (rw t2.before.one.ensures at t2.flag-if.ensures)
-          (then _ (rw t3.before.one2.ensures at t3.take.ensures.0)
-          (then _ (rw t4.before.one3.ensures at t4.take2.ensures.0)
-          (then _ (judged t5.refuse-if.ensures refl)
-          (then _ (rw t6.sub-bands.ensures.0 at t7.coupling-bands.ensures.0)
-          (then _ (judged t9.refuse-if2.ensures (ap (λ n. ltb n 2) t8.how-many.ensures))
+      then _ t1.coupled_channels-channels.ensures
+          (then _ (rw t2.before.one.ensures at t2.flag_if-phsflginu.ensures)
+          (then _ (rw t3.before.one-2.ensures at t3.take-cplbegf.ensures.0)
+          (then _ (rw t4.before.one-3.ensures at t4.take-cplendf.ensures.0)
+          (then _ (judged t5.refuse_if-ranged.ensures refl)
+          (then _ (rw t6.sub_bands.ensures.0 at t7.coupling_bands-ncplbnd.ensures.0)
+          (then _ (judged t9.refuse_if-cursor.ensures (ap (λ n. ltb n 2) t8.how_many.ensures))
           finished)))))),
-      (record { cplbegf = t3.take.ensures.1; cplendf = t4.take2.ensures.1 }, record { ncplbnd = t7.coupling-bands.ensures.1 }),
+      (record { cplbegf = t3.take-cplbegf.ensures.1; cplendf = t4.take-cplendf.ensures.1 }, record { ncplbnd = t7.coupling_bands-ncplbnd.ensures.1 }),
     )
 
-pub new-coupling-spec : {M : Type 1} → statement M
-new-coupling-spec =
+pub new_coupling_spec : {M : Type 1} → statement M
+new_coupling_spec =
     tie.close
     (tie.spec
     (λ c κs. search rules)  -- coupled-channels-requires

@@ -10,43 +10,43 @@ use Rattle.channels.specs.Strategies.{bandwidth}
 use Rattle.channels.proofs.ends.bandwidth.Statement.{statement}
 use Rattle.channels.proofs.ends.bandwidth.Tie as tie
 
-refused : tie.Need-returns
+refused : tie.Need-returns-then-cursor-ne0
 unfolding bandwidth
 refused c =
     let t3 = c.before.before in
     let t2 = t3.before.before.before in
     let t1 = t2.before.before.before.before in (
-      there _ _ _ (sym t1.and-not.ensures ∙ t2.before.before.before.if1.true)
-          (then _ (rw t2.before.nth.ensures at t2.take.ensures.0)
-          (then _ (judged t3.refuse-if.ensures refl)
-          (stopped c.if2.true))),
+      there _ _ _ (sym t1.and_not.ensures ∙ t2.before.before.before.if-and_not.true)
+          (then _ (rw t2.before.nth.ensures at t2.take-code.ensures.0)
+          (then _ (judged t3.refuse_if-cursor.ensures refl)
+          (stopped c.if-cursor-ne0.true))),
       t1.before.before.before.requires.1,
     )
 
-sent : tie.Need-returns-2
+sent : tie.Need-returns-else-cursor-ne0
 unfolding bandwidth
 sent c =
     let t3 = c.before.before.before.before.before in
     let t2 = t3.before.before.before in
     let t1 = t2.before.before.before.before in
     let start = t1.before.before.before in
-    let code = t2.take.result.value in
-    let small = ltb-false 60 code (t3.refuse-if.ensures.passed c.before.before.before.if2.false) in (
-      there _ _ _ (sym t1.and-not.ensures ∙ t2.before.before.before.if1.true)
-          (then _ (rw t2.before.nth.ensures at t2.take.ensures.0)
-          (then _ (judged t3.refuse-if.ensures refl)
+    let code = t2.take-code.result.value in
+    let small = ltb-false 60 code (t3.refuse_if-cursor.ensures.passed c.before.before.before.if-cursor-ne0.false) in (
+      there _ _ _ (sym t1.and_not.ensures ∙ t2.before.before.before.if-and_not.true)
+          (then _ (rw t2.before.nth.ensures at t2.take-code.ensures.0)
+          (then _ (judged t3.refuse_if-cursor.ensures refl)
           finished)),
       record { chbwcod = set_below start.args.old.chbwcod start.requires.1.chbwcod start.args.ch code (omega (arith, small)) },
     )
 
-unsent : tie.Need-returns-3
+unsent : tie.Need-returns-else-and_not
 unfolding bandwidth
 unsent c =
     let t1 = c.before in
-    (absent _ _ _ (sym t1.and-not.ensures ∙ c.if1.false), t1.before.before.before.requires.1)
+    (absent _ _ _ (sym t1.and_not.ensures ∙ c.if-and_not.false), t1.before.before.before.requires.1)
 
-pub bandwidth-spec : {M : Type 1} → statement M
-bandwidth-spec =
+pub bandwidth_spec : {M : Type 1} → statement M
+bandwidth_spec =
     tie.close
     (tie.spec
     (λ c. search rules)  -- array-read-and-not

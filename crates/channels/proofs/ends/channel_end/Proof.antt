@@ -9,23 +9,23 @@ use Rattle.channels.specs.Strategies.{channel_end}
 use Rattle.channels.proofs.ends.channel_end.Statement.{statement}
 use Rattle.channels.proofs.ends.channel_end.Tie as tie
 
-coupled : tie.Need-returns
+coupled : tie.Need-returns-then-coupling-at
 unfolding channel_end
 coupled c =
-    rw c.first_coupled_lem.ensures (λ s room. absent _ _ _ (ap not c.before.if1.true), omega (arith, c.before.before.before.requires.1.0))
+    rw c.first_coupled.ensures (λ s room. absent _ _ _ (ap not c.before.if-coupling-at.true), omega (arith, c.before.before.before.requires.1.0))
 
-alone : tie.Need-returns-2
+alone : tie.Need-returns
 unfolding channel_end
 alone c =
     let t1 = c.before.before in
     let start = t1.before.before.before.before in
-    rw c.past-channel.ensures (
-      λ s room. there _ _ _ (ap not t1.before.before.if1.false) (then _ (judged t1.refuse-if.ensures refl) finished),
+    rw c.past_channel.ensures (
+      λ s room. there _ _ _ (ap not t1.before.before.if-coupling-at.false) (then _ (judged t1.refuse_if-cursor.ensures refl) finished),
       omega (arith, start.requires.1.1.chbwcod start.args.ch),
     )
 
-pub channel-end-spec : {M : Type 1} → statement M
-channel-end-spec =
+pub channel_end_spec : {M : Type 1} → statement M
+channel_end_spec =
     tie.close
     (tie.spec
     (λ c. search rules)  -- element-copy-out-if1

@@ -6,31 +6,31 @@ use Rattle.channels.specs.Coupling.{rematrixing}
 use Rattle.channels.proofs.rematrixing.rematrixing.Statement.{statement}
 use Rattle.channels.proofs.rematrixing.rematrixing.Tie as tie
 
-new : tie.Need-returns
+new : tie.Need-returns-then-rematstr
 unfolding rematrixing
 new c =
     let t3 = c.before in
     let t2 = t3.before in
     let t1 = t2.before.before.before.before.before in
-    rw (eq-eqb _ 2 t1.before.before.if1.true)
-    (then _ t1.announced.ensures
-    (rw (t2.before.before.if2.true, ← t2.rematrix-bands.ensures)
+    rw (eq-eqb _ 2 t1.before.before.if-acmod-eq2.true)
+    (then _ t1.announced-rematstr.ensures
+    (rw (t2.before.before.if-rematstr.true, ← t2.rematrix_bands.ensures)
     t3.flags.ensures))
 
-kept : tie.Need-returns-2
+kept : tie.Need-returns-else-rematstr
 unfolding rematrixing
 kept c =
     let t1 = c.before.before.before in
-    rw (eq-eqb _ 2 t1.before.before.if1.true)
-    (then _ t1.announced.ensures
-    (rw c.if2.false finished))
+    rw (eq-eqb _ 2 t1.before.before.if-acmod-eq2.true)
+    (then _ t1.announced-rematstr.ensures
+    (rw c.if-rematstr.false finished))
 
-absent : tie.Need-returns-3
+absent : tie.Need-returns-else-acmod-eq2
 unfolding rematrixing
-absent c = rw (ne_eqb _ 2 c.if1.false) finished
+absent c = rw (ne_eqb _ 2 c.if-acmod-eq2.false) finished
 
-pub rematrixing-spec : {M : Type 1} → statement M
-rematrixing-spec =
+pub rematrixing_spec : {M : Type 1} → statement M
+rematrixing_spec =
     tie.close
     (tie.spec
     (λ c κs. search rules)  -- announced-requires

@@ -11,15 +11,15 @@ reads c =
     let t3 = c.before.before.before.before.before in
     let t2 = t3.before.before.before.before in
     let t1 = t2.before.before.before in (
-      then _ (rw t1.before.one.ensures at t1.take-if.ensures.0)
-          (then _ t2.channel-strategies.ensures.0
-          (then _ (rw t3.before.one2.ensures at t3.take-if2.ensures.0)
+      then _ (rw t1.before.one.ensures at t1.take_if-cplexpstr.ensures.0)
+          (then _ t2.channel_strategies-channels.ensures.0
+          (then _ (rw t3.before.one-2.ensures at t3.take_if-lfeexpstr.ensures.0)
           finished)),
-      record { cplexpstr = t1.take-if.ensures.1; chexpstr = t2.channel-strategies.ensures.1; lfeexpstr = t3.take-if2.ensures.1 },
+      record { cplexpstr = t1.take_if-cplexpstr.ensures.1; chexpstr = t2.channel_strategies-channels.ensures.1; lfeexpstr = t3.take_if-lfeexpstr.ensures.1 },
     )
 
-pub exponent-strategies-spec : {M : Type 1} → statement M
-exponent-strategies-spec =
+pub exponent_strategies_spec : {M : Type 1} → statement M
+exponent_strategies_spec =
     tie.close
     (tie.spec
     (λ c κs. tt)  -- one-requires

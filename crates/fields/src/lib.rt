@@ -1,6 +1,5 @@
 // The rows of a frame as records: a `Field` holds its `Role`, with the programme that the role speaks of, and the row's other
-// seven numbers. Functions with a run of records are proved by hand and are thin; the work on numbers is in functions that take and return a
-// record by value.
+// seven numbers.
 #![tactic(auto)]
 
 ghost use Rattle.std.specs.Prelude.{◌≡◌, ◌≤◌, ◌+◌, ◌*◌, min, ◌/◌, length, replicate, pos};
@@ -16,7 +15,7 @@ use syntax::{NONE, ROW, Role};
 const NUMBERS: usize = MOST_ROWS * ROW;
 
 // -1 stands for "none" in block, index and part.
-#[derive(Drop)]
+#[derive(Clone, Copy)]
 pub struct Field {
     pub name: i32,
     pub role: Role,
@@ -174,7 +173,7 @@ fn no_fields() -> [Field; MOST_ROWS]
     [field; MOST_ROWS]
 }
 
-// ---- by hand: functions with a run of records
+// ---- runs of records
 
 // The first rows, as records, in front of the run.
 fn fill(rows: &[i32], count: usize, fields: &mut [Field])

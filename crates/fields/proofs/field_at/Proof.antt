@@ -30,8 +30,8 @@ entries c =
     ∷ (passed {x = n (at + 8)} (search rules) refl) i
     ∷ [])
 
-pub field-at-spec : {M : Type 1} → statement M
-field-at-spec =
+pub field_at_spec : {M : Type 1} → statement M
+field_at_spec =
     tie.close
     (tie.spec
     (λ c. search rules)  -- mul-at

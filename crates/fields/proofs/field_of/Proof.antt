@@ -21,11 +21,11 @@ entries c =
     let t1 = c.before.before.before.before.before.before.before in
     let t2 = t1.before in
     let t3 = t2.before.before in
-    let n : ℕ → ℤ = λ k. get_or t3.before.before.args.t1 k (pos 0) in
+    let n : ℕ → ℤ = λ k. get_or t3.before.before.args.row k (pos 0) in
     λ i.
     record {
       name = (passed {x = n 0} (search rules) refl) i;
-      role = (role_is t1.role-of.ensures t2.clamp.ensures (passed {x = n 1} (search rules) refl) t3.programme-of.ensures (passed {x = n 2} (search rules) refl)) i;
+      role = (role_is t1.role_of-role.ensures t2.clamp.ensures (passed {x = n 1} (search rules) refl) t3.programme_of-programme.ensures (passed {x = n 2} (search rules) refl)) i;
       block = (passed {x = n 3} (search rules) refl) i;
       index = (passed {x = n 4} (search rules) refl) i;
       position = (passed {x = n 5} (search rules) refl) i;
@@ -34,8 +34,8 @@ entries c =
       part = (passed {x = n 8} (search rules) refl) i;
     }
 
-pub field-of-spec : {M : Type 1} → statement M
-field-of-spec =
+pub field_of_spec : {M : Type 1} → statement M
+field_of_spec =
     tie.close
     (tie.spec
     (λ c. search rules)  -- array-copy-out-programme-of

@@ -30,14 +30,14 @@ other (negsuc n) e = absurd (subst T e tt)
 at_most : (z : ℤ) {n : ℕ} → n ≡ clamp_z z 255 → n ≤ 255
 at_most z e = rw e (clamp_le z 255)
 
-pub programme-of-spec : {M : Type 1} → statement M
-programme-of-spec =
+pub programme_of_spec : {M : Type 1} → statement M
+programme_of_spec =
     tie.close
     (tie.spec
-    (λ c. let z = to_z-of_z w32 c.before.args.n c.before.ranges.n in negative c.before.args.n (rw z at c.if1.true))  -- returns
+    (λ c. let z = to_z-of_z w32 c.before.args.n c.before.ranges.n in negative c.before.args.n (rw z at c.if-n-lt0.true))  -- returns
     (λ c κs. search rules)  -- clamp-requires
     (λ c. record { fits = lt_of_le_of_lt (at_most (to_z w32 (of_z w32 c.before.before.args.n)) c.clamp.ensures) (lit< tt) })  -- cast_result
     (λ c.
     let s = c.before.before in
     let z = to_z-of_z w32 s.args.n s.ranges.n in
-    c.clamp.ensures ∙ rw z (other s.args.n (rw z at c.before.if1.false))))  -- returns-2
+    c.clamp.ensures ∙ rw z (other s.args.n (rw z at c.before.if-n-lt0.false))))  -- returns-2

@@ -12,7 +12,7 @@ use Rattle.fields.proofs.put_row.Tie as tie
 
 returns : tie.Need-returns
 returns c =
-    let n : ℕ → ℤ = λ k. get_or c.before.before.before.before.before.before.before.before.before.args.t3 k (pos 0) in
+    let n : ℕ → ℤ = λ k. get_or c.before.before.before.before.before.before.before.before.before.args.row k (pos 0) in
     simp (
       towards_suc,
       to_z-of_z {w = w32} {z = n 0} (search rules),
@@ -26,8 +26,8 @@ returns c =
       to_z-of_z {w = w32} {z = n 8} (search rules),
     )
 
-pub put-row-spec : {M : Type 1} → statement M
-put-row-spec =
+pub put_row_spec : {M : Type 1} → statement M
+put_row_spec =
     tie.close
     (tie.spec
     (λ c. search rules)  -- mul-at

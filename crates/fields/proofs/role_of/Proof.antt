@@ -7,12 +7,12 @@ use Rattle.fields.specs.Fields.{role_of, roles}
 use Rattle.fields.proofs.role_of.Statement.{statement}
 use Rattle.fields.proofs.role_of.Tie as tie
 
-pub role-of-spec : {M : Type 1} → statement M
+pub role_of_spec : {M : Type 1} → statement M
 unfolding role_of
-role-of-spec =
+role_of_spec =
     tie.close
     (tie.spec
     (λ c. search rules)  -- mul_result
     (λ c. search rules)  -- array-copy-out-result
     (λ c. refl)  -- returns
-    (λ c. sym (get_or-eq_default (roles c.before.args.p) Plain c.if1.false)))  -- returns-2
+    (λ c. sym (get_or-eq_default (roles c.before.args.p) Plain c.if-n-lt21.false)))  -- returns-2

@@ -15,11 +15,11 @@ entries c =
     let t1 = c.before in
     let t2 = t1.before.before in
     let f = t2.before.args.field in
-    let held = t2.before.well-formed.0.1.1.1.1.1.1.1 in
-    let said = t2.role-numbers.ensures in
+    let held = t2.before.well_formed.0.1.1.1.1.1.1.1 in
+    let said = t2.role_numbers-numbers.ensures in
     λ i.
     (passed {x = f.name} (search rules) refl) i
-    ∷ (widened t2.role-numbers.result.0 (omega arith) ∙ ap (λ n. pos n.0) said) i
+    ∷ (widened t2.role_numbers-numbers.result.0 (omega arith) ∙ ap (λ n. pos n.0) said) i
     ∷ (passed {x = t1.shown.result} (search rules) (t1.shown.ensures ∙ ap (λ n. shown n.1) said)) i
     ∷ (passed {x = f.block} (search rules) refl) i
     ∷ (passed {x = f.index} (search rules) refl) i
@@ -29,8 +29,8 @@ entries c =
     ∷ (passed {x = f.part} (search (rules, held)) refl) i
     ∷ []
 
-pub row-of-spec : {M : Type 1} → statement M
-row-of-spec =
+pub row_of_spec : {M : Type 1} → statement M
+row_of_spec =
     tie.close
     (tie.spec
     (λ c κs. search rules)  -- role-numbers-requires

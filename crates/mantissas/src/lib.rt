@@ -41,7 +41,7 @@ pub struct Block {
 }
 
 // A slot in use, with its first bin and the first bin past its last.
-#[derive(Drop)]
+#[derive(Clone, Copy)]
 pub struct Part {
     pub slot: u8,
     pub start: u8,
@@ -49,14 +49,14 @@ pub struct Part {
 }
 
 // The slots in use, in the order of their mantissas.
-#[derive(Drop)]
+#[derive(Clone, Copy)]
 pub struct Parts {
     pub count: usize,
     pub list: [Part; 7],
 }
 
 // What the pointers of a block go by, besides the exponents. Where it is silent every pointer is 0.
-#[derive(Drop)]
+#[derive(Clone, Copy)]
 pub struct Setting {
     pub fscod: u8,
     pub st: AllocState,
@@ -64,7 +64,7 @@ pub struct Setting {
 }
 
 // Mantissas counted: the bits of those that stand alone, and how many there are of pointers 1, 2 and 4.
-#[derive(Drop)]
+#[derive(Clone, Copy)]
 pub struct Counts {
     pub bits: u32,
     pub ones: u32,

@@ -22,76 +22,71 @@ use Rattle.mantissas.proofs.counting.count_bins.Tie as tie
 abbrev pointers : List ℕ → ℕ → ℕ → List ℕ
 pointers addresses first last = from first (last - first) (bap_at bap addresses)
 
-abbrev invariant-loop : tie.invariant-loop
-invariant-loop addresses start end baps weights total₀ bin₀ total bin =
+abbrev invariant-loop-bin : tie.invariant-loop-bin
+invariant-loop-bin addresses start end baps weights total₀ bin₀ total bin =
     (total + weight (pointers addresses bin end) ≡ weight (pointers addresses start end)) × (total ≤ 562949953421312 * (bin - start)) × (start ≤ bin) × (bin ≤ start + 253)
 
-abbrev decreases-loop : tie.decreases-loop
-decreases-loop addresses start end baps weights total₀ bin₀ total bin = end - bin
+abbrev decreases-loop-bin : tie.decreases-loop-bin
+decreases-loop-bin addresses start end baps weights total₀ bin₀ total bin = end - bin
 
 -- the address of this bin, the pointer there, and its weight
-module _ (c : tie.After-pointer invariant-loop decreases-loop) where
-  abbrev begin : tie.Start invariant-loop decreases-loop
-  begin = c.before.before.before.before.before
-
+module _ (c : tie.After-way_told-1 invariant-loop-bin decreases-loop-bin) where
   abbrev bin : ℕ
-  bin = c.before.before.loop.bin
+  bin = c.loop-bin.bin
 
   abbrev address : ℕ
-  address = get_or begin.args.addresses.now bin 0
+  address = get_or c.args.addresses.now bin 0
 
   address_small : address < 64
-  address_small = begin.pre.1 bin (omega arith) (omega arith)
+  address_small = c.requires.1 bin (omega arith) (omega arith)
 
   abbrev pointer : ℕ
-  pointer = get_or c.before.before.before.before.bit-allocation-pointers.result address 0
+  pointer = get_or c.bit_allocation_pointers-baps.result address 0
 
-  pointer_is : pointer ≡ bap_at bap begin.args.addresses.now bin
-  pointer_is = ap (λ (l : List ℕ). get_or l address 0) c.before.before.before.before.bit-allocation-pointers.ensures
+  pointer_is : pointer ≡ bap_at bap c.args.addresses.now bin
+  pointer_is = ap (λ (l : List ℕ). get_or l address 0) c.bit_allocation_pointers-baps.ensures
 
   small : pointer < 16
   small = rw pointer_is (bap_below address)
 
-  weighs : get_or c.before.before.before.weights.result pointer 0 ≡ packed (counted no_counts (bap_at bap begin.args.addresses.now bin))
+  weighs : get_or c.weights-weights.result pointer 0 ≡ packed (counted no_counts (bap_at bap c.args.addresses.now bin))
   weighs =
       let weigh : ℕ → ℕ = λ k. packed (counted no_counts k) in
-      ap (λ (l : List ℕ). get_or l pointer 0) c.before.before.before.weights.ensures ∙ from_at weigh 0 16 0 pointer small ∙ ap weigh (zero-add pointer ∙ pointer_is)
+      ap (λ (l : List ℕ). get_or l pointer 0) c.weights-weights.ensures ∙ from_at weigh 0 16 0 pointer small ∙ ap weigh (zero-add pointer ∙ pointer_is)
 
-again : tie.Need-loop-preserved invariant-loop decreases-loop
+again : tie.Need-loop-bin-preserved invariant-loop-bin decreases-loop-bin
 unfolding weight
 again c =
-    let s = begin c in
-    let turn = c.before.before.loop in
-    let step : weight (pointers s.args.addresses.now turn.bin s.args.end) ≡ packed (counted no_counts (bap_at bap s.args.addresses.now turn.bin)) + weight (pointers s.args.addresses.now (turn.bin + 1) s.args.end)
-    = rw (from_one (bap_at bap s.args.addresses.now) c.before.loop-test.true) in
-    (omega (arith, step, turn.invariant.0, weighs c), omega (arith, turn.invariant.1, turn.invariant.2, weighs c, light (bap_at bap s.args.addresses.now turn.bin)), omega arith, omega arith)
+    let turn = c.loop-bin in
+    let step : weight (pointers c.args.addresses.now turn.bin c.args.end) ≡ packed (counted no_counts (bap_at bap c.args.addresses.now turn.bin)) + weight (pointers c.args.addresses.now (turn.bin + 1) c.args.end)
+    = rw (from_one (bap_at bap c.args.addresses.now) c.loop-bin-test.true) in
+    (omega (arith, step, turn.invariant.0, weighs c.before), omega (arith, turn.invariant.1, turn.invariant.2, weighs c.before, light (bap_at bap c.args.addresses.now turn.bin)), omega arith, omega arith)
 
-returns : tie.Need-returns invariant-loop decreases-loop
+returns : tie.Need-returns invariant-loop-bin decreases-loop-bin
 unfolding weight
 returns c =
-    let s = c.before.before.before.before in
-    let turn = c.before.loop in
-    let pointer = bap_at bap s.args.addresses.now in
-    let none : weight (pointers s.args.addresses.now turn.bin s.args.end) ≡ 0 = rw (from_none pointer c.loop-test.false) in
-    unpacked turn.total (pointers s.args.addresses.now s.args.start s.args.end) (omega (arith, none, turn.invariant.0))
-    (rw (from_length pointer (s.args.end - s.args.start) s.args.start) (omega arith))
+    let turn = c.loop-bin in
+    let pointer = bap_at bap c.args.addresses.now in
+    let none : weight (pointers c.args.addresses.now turn.bin c.args.end) ≡ 0 = rw (from_none pointer c.loop-bin-test.false) in
+    unpacked turn.total (pointers c.args.addresses.now c.args.start c.args.end) (omega (arith, none, turn.invariant.0))
+    (rw (from_length pointer (c.args.end - c.args.start) c.args.start) (omega arith))
 
-pub count-bins-spec : {M : Type 1} → statement M
-count-bins-spec =
+pub count_bins_spec : {M : Type 1} → statement M
+count_bins_spec =
     tie.close
     (tie.spec
-    invariant-loop
-    decreases-loop
+    invariant-loop-bin
+    decreases-loop-bin
     (λ c κs. search rules)  -- bit-allocation-pointers-requires
     (λ c κs. search rules)  -- weights-requires
     (λ c. (zero-add _, omega arith, omega arith, omega arith))  -- loop_holds
     (λ c. search rules)  -- element-copy-out-pointer
-    (λ c. omega (arith, address_small c))  -- cast-pointer
-    (λ c. omega (arith, address_small c))  -- array-read-pointer
-    (λ c. omega (arith, small c))  -- cast-pointer-2
-    (λ c. omega (arith, small c))  -- mul-total
-    (λ c. omega (arith, small c))  -- array-read-total
-    (λ c. omega (arith, c.before.before.loop.invariant.1, weighs c, light (bap_at bap (begin c).args.addresses.now (bin c))))  -- add-total
+    (λ c. omega (arith, c.requires.1 c.loop-bin.bin (omega arith) (omega arith)))  -- cast-pointer
+    (λ c. omega (arith, c.requires.1 c.loop-bin.bin (omega arith) (omega arith)))  -- array-read-pointer
+    (λ c. omega (arith, small c.before))  -- cast-pointer-2
+    (λ c. omega (arith, small c.before))  -- mul-total
+    (λ c. omega (arith, small c.before))  -- array-read-total
+    (λ c. omega (arith, c.loop-bin.invariant.1, weighs c.before, light (bap_at bap c.args.addresses.now (bin c.before))))  -- add-total
     (λ c. search rules)  -- add-bin
     (λ c. search rules)  -- loop-less
     again

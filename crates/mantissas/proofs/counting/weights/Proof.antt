@@ -7,10 +7,10 @@ use Rattle.mantissas.proofs.counting.weights.Tie as tie
 
 returns : tie.Need-returns
 unfolding bap_bits from
-returns c = rw c.mantissa-bits.ensures
+returns c = rw c.mantissa_bits-bits.ensures
 
-pub weights-spec : {M : Type 1} → statement M
-weights-spec =
+pub weights_spec : {M : Type 1} → statement M
+weights_spec =
     tie.close
     (tie.spec
     (λ c κs. search rules)  -- mantissa-bits-requires

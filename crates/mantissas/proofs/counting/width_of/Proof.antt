@@ -5,9 +5,9 @@ use Rattle.mantissas.specs.Counts.{width_of}
 use Rattle.mantissas.proofs.counting.width_of.Statement.{statement}
 use Rattle.mantissas.proofs.counting.width_of.Tie as tie
 
-pub width-of-spec : {M : Type 1} → statement M
+pub width_of_spec : {M : Type 1} → statement M
 unfolding width_of
-width-of-spec =
+width_of_spec =
     tie.close
     (tie.spec
     (λ c. search rules)  -- add_result

@@ -12,48 +12,48 @@ use Rattle.mantissas.specs.Parts.{channel_parts}
 use Rattle.mantissas.proofs.in_use.channel_parts.Statement.{statement}
 use Rattle.mantissas.proofs.in_use.channel_parts.Tie as tie
 
-abbrev invariant-loop : tie.invariant-loop
-invariant-loop nfchans coupling ends order₀ ch₀ order ch =
+abbrev invariant-loop-ch : tie.invariant-loop-ch
+invariant-loop-ch nfchans coupling ends order₀ ch₀ order ch =
     (listed order.parts ++ channel_parts coupling ends ch (nfchans - ch) order.waiting ≡ channel_parts coupling ends 0 nfchans coupling.cplinu)
     × (SoundParts order.parts × ((order.parts.count + cond order.waiting 1 0 ≤ ch + 1) × (ch ≤ nfchans)))
 
-abbrev decreases-loop : tie.decreases-loop
-decreases-loop nfchans coupling ends order₀ ch₀ order ch = nfchans - ch
+abbrev decreases-loop-ch : tie.decreases-loop-ch
+decreases-loop-ch nfchans coupling ends order₀ ch₀ order ch = nfchans - ch
 
 at_most_one : (b : Bool) → cond b 1 0 ≤ 1
 at_most_one true = omega arith
 at_most_one false = omega arith
 
-holds : tie.Need-loop-init invariant-loop decreases-loop
+holds : tie.Need-loop-ch-init invariant-loop-ch decreases-loop-ch
 holds c =
     let s = c.before in
-    (rw (c.no-parts.ensures.0.0, sub-zero s.args.nfchans), (c.no-parts.ensures.1, (omega (arith, c.no-parts.ensures.0.1, at_most_one s.args.coupling.cplinu), omega arith)))
+    (rw (c.no_parts-parts.ensures.0.0, sub-zero s.args.nfchans), (c.no_parts-parts.ensures.1, (omega (arith, c.no_parts-parts.ensures.0.1, at_most_one s.args.coupling.cplinu), omega arith)))
 
-again : tie.Need-loop-preserved invariant-loop decreases-loop
+again : tie.Need-loop-ch-preserved invariant-loop-ch decreases-loop-ch
 again c =
-    let at = c.before.before.loop in
+    let at = c.before.before.loop-ch in
     let left = c.before.before.before.before.args.nfchans - (at.ch + 1) in
     let m : c.before.before.before.before.args.nfchans - at.ch ≡ suc left = omega arith in
-    (c.add-channel.ensures.0 left ∙ (rw m at at.invariant.0), (c.add-channel.ensures.1.0, (omega (arith, c.add-channel.ensures.1.1, at.invariant.1.1), omega arith)))
+    (c.add_channel-order.ensures.0 left ∙ (rw m at at.invariant.0), (c.add_channel-order.ensures.1.0, (omega (arith, c.add_channel-order.ensures.1.1, at.invariant.1.1), omega arith)))
 
-returns : tie.Need-returns invariant-loop decreases-loop
+returns : tie.Need-returns invariant-loop-ch decreases-loop-ch
 unfolding channel_parts
 returns c =
-    let at = c.before.before.loop in
+    let at = c.before.before.loop-ch in
     let m : c.before.before.before.before.args.nfchans - at.ch ≡ 0 = omega arith in
     (sym (append-nil _) ∙ (rw m at at.invariant.0), (at.invariant.1.0, omega (arith, at.invariant.1.1)))
 
-pub channel-parts-spec : {M : Type 1} → statement M
-channel-parts-spec =
+pub channel_parts_spec : {M : Type 1} → statement M
+channel_parts_spec =
     tie.close
     (tie.spec
-    invariant-loop
-    decreases-loop
+    invariant-loop-ch
+    decreases-loop-ch
     (λ c κs. search rules)  -- no-parts-requires
     holds
     (λ c κs.
     let s = c.before.before.before in
-    let at = c.before.loop in
+    let at = c.before.loop-ch in
     ((omega arith, omega (arith, at.invariant.1.1), at.invariant.1.0), s.requires.1))  -- add-channel-requires
     (λ c. search rules)  -- add-ch
     (λ c. search rules)  -- loop-less

@@ -10,8 +10,8 @@ use Rattle.mantissas.proofs.in_use.no_parts.Tie as tie
 sound : SoundPart no_part
 sound = search rules
 
-pub no-parts-spec : {M : Type 1} → statement M
+pub no_parts_spec : {M : Type 1} → statement M
 unfolding from
-no-parts-spec =
+no_parts_spec =
     tie.close
     (tie.spec (λ c. ((refl, refl), record { count = search rules; each = every_replicate SoundPart no_part 7 no_part sound sound })))

@@ -1,7 +1,7 @@
 -- `mantissas::in_use::push` meets its contract: a store at the place after the last adds an entry. Assumes nothing.
-use mathlib.Core.Path.{◌≡◌, refl, sym, ◌∙◌}
+use mathlib.Core.Path.{◌≡◌, refl}
 use native.Mathlib.Omega.{arith}
-use lib.ListN.{length, length-map}
+use lib.ListN.{length}
 use borrow.Author.Rules.{rules}
 use Rattle.slots.proofs.Entries.{every_set}
 use Rattle.mantissas.specs.Sound.{SoundPart, no_part}
@@ -13,7 +13,7 @@ returns : tie.Need-returns
 returns c =
     let s = c.before in
     let old = s.args.ps.list in
-    let seven : length old ≡ 7 = sym (length-map old _) ∙ s.well-formed.0.1.1.1.0.1.0.1 in
+    let seven : length old ≡ 7 = s.well_formed.0.1.1.1.0.1.0.1 in
     let sound = s.requires.1 in (
       (between_store no_part old s.args.ps.count _ (omega arith), refl),
       record {

@@ -20,43 +20,36 @@ use Rattle.mantissas.proofs.memos.count_slot.Statement.{statement}
 use Rattle.mantissas.proofs.memos.count_slot.Tie as tie
 
 -- the addresses are the definition's
-module _ (c : tie.After-addresses-of) where
-  abbrev start : tie.Start
-  start = c.before.before.before.before.before.before
-
+module _ (c : tie.After-addresses_of) where
   abbrev row : List ℤ
-  row = get_or start.args.exps.now start.args.p.slot []
+  row = get_or c.args.exps.now c.args.p.slot []
 
   abbrev by : Parameters
-  by = parameters_of start.args.by.fscod start.args.by.st start.args.p
+  by = parameters_of c.args.by.fscod c.args.by.st c.args.p
 
-  address_is : (bin : ℕ) → start.args.p.start ≤ bin → bin < start.args.p.end → get_or c.addresses-of.new.0 bin 0 ≡ address_at row by bin
-  address_is = fills_in (rw c.before.parameters-of.ensures.0 at c.addresses-of.ensures)
+  address_is : (bin : ℕ) → c.args.p.start ≤ bin → bin < c.args.p.end → get_or c.addresses_of.new.out bin 0 ≡ address_at row by bin
+  address_is = fills_in (rw c.parameters_of.ensures.0 at c.addresses_of.ensures)
 
-  pointers_here : from start.args.p.start (start.args.p.end - start.args.p.start) (bap_at bap c.addresses-of.new.0)
-      ≡ pointers start.args.by.fscod start.args.by.st start.args.exps.now start.args.p
+  pointers_here : from c.args.p.start (c.args.p.end - c.args.p.start) (bap_at bap c.addresses_of.new.out)
+      ≡ pointers c.args.by.fscod c.args.by.st c.args.exps.now c.args.p
   unfolding pointers bap_of
-  pointers_here = pointers_are bap row by (bap_at bap c.addresses-of.new.0) (λ bin a b. ap (λ (k : ℕ). get_or bap k 0) (address_is bin a b))
+  pointers_here = pointers_are bap row by (bap_at bap c.addresses_of.new.out) (λ bin a b. ap (λ (k : ℕ). get_or bap k 0) (address_is bin a b))
 
-pub count-slot-spec : {M : Type 1} → statement M
-count-slot-spec =
+pub count_slot_spec : {M : Type 1} → statement M
+count_slot_spec =
     tie.close
     (tie.spec
     (λ c. search rules)  -- cast-at
     (λ c κs. search rules)  -- zeros-requires
     (λ c. search rules)  -- mul-addresses-of
     (λ c. search rules)  -- index-1-addresses-of
-    (λ c κs. let s = c.before.before.before.before in (s.requires.0.fscod, s.requires.0.st, s.requires.2))  -- parameters-of-requires
+    (λ c κs. (c.requires.0.fscod, c.requires.0.st, c.requires.2))  -- parameters-of-requires
     (λ c κs.
-    let s = c.before.before.before.before.before in
-    (rw c.before.before.before.zeros.ensures, c.parameters-of.ensures.1, s.requires.1 s.args.p.slot))  -- addresses-of-requires
+    (rw c.zeros-addresses.ensures, c.parameters_of.ensures.1, c.requires.1 c.args.p.slot))  -- addresses-of-requires
     (λ c. search rules)  -- cast-start
     (λ c. search rules)  -- cast-end
     (λ c κs.
-    let a = c.before.before.before in
-    ((start a).requires.2.end, λ bin from to. rw (address_is a bin from to) (address_below _ _)))  -- count-bins-requires
+    (c.requires.2.end, λ bin from to. rw (address_is c.before.before.before bin from to) (address_below _ _)))  -- count-bins-requires
     (λ c.
-    let a = c.before.before.before.before in
-    let s = start a in
-    let counted = c.count-bins.ensures ∙ ap (counted_all no_counts) (pointers_here a) in
-    (counted, rw counted (pointers_at_most s.args.by.fscod s.args.by.st s.args.exps.now s.args.p s.pre.2.end))))  -- returns
+    let counted = c.count_bins.ensures ∙ ap (counted_all no_counts) (pointers_here c.before.before.before.before) in
+    (counted, rw counted (pointers_at_most c.args.by.fscod c.args.by.st c.args.exps.now c.args.p c.requires.2.end))))  -- returns

@@ -9,25 +9,23 @@ use Rattle.mantissas.proofs.Kept.{KeptBefore, none_done, all_done, slot_done}
 use Rattle.mantissas.proofs.memos.forget_new.Statement.{statement}
 use Rattle.mantissas.proofs.memos.forget_new.Tie as tie
 
-abbrev invariant-loop : tie.invariant-loop
-invariant-loop memos₀ strategies slot₀ memos slot =
+abbrev invariant-loop-slot : tie.invariant-loop-slot
+invariant-loop-slot memos₀ strategies slot₀ memos slot =
     (fscod : ℕ) (exps : List (List ℤ)) → KeptUnlessNew fscod strategies memos₀ exps → KeptBefore fscod slot strategies memos exps
 
-abbrev decreases-loop : tie.decreases-loop
-decreases-loop memos₀ strategies slot₀ memos slot = 7 - slot
+abbrev decreases-loop-slot : tie.decreases-loop-slot
+decreases-loop-slot memos₀ strategies slot₀ memos slot = 7 - slot
 
-again : tie.Need-loop-preserved invariant-loop decreases-loop
+again : tie.Need-loop-slot-preserved invariant-loop-slot decreases-loop-slot
 again c fscod exps kept =
-    let new = c.before.before in
-    let test = new.before in
-    rw c.forget-if.ensures (slot_done (test.before.loop.invariant fscod exps kept) (omega (arith, test.loop-test.true)) new.is-new.result new.is-new.ensures)
+    rw c.forget_if.ensures (slot_done (c.loop-slot.invariant fscod exps kept) (omega (arith, c.loop-slot-test.true)) c.is_new.result c.is_new.ensures)
 
-pub forget-new-spec : {M : Type 1} → statement M
-forget-new-spec =
+pub forget_new_spec : {M : Type 1} → statement M
+forget_new_spec =
     tie.close
     (tie.spec
-    invariant-loop
-    decreases-loop
+    invariant-loop-slot
+    decreases-loop-slot
     (λ c fscod exps. none_done)  -- loop_holds
     (λ c κs. search rules)  -- is-new-requires
     (λ c. search rules)  -- cast-forget-if
@@ -37,4 +35,4 @@ forget-new-spec =
     (λ c. search rules)  -- add-slot
     (λ c. search rules)  -- loop-less
     again
-    (λ c fscod exps kept. all_done (omega (arith, c.loop-test.false)) (c.before.loop.invariant fscod exps kept)))  -- returns
+    (λ c fscod exps kept. all_done (omega (arith, c.loop-slot-test.false)) (c.loop-slot.invariant fscod exps kept)))  -- returns

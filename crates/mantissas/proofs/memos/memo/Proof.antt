@@ -4,8 +4,8 @@ use borrow.Author.Rules.{rules}
 use Rattle.mantissas.proofs.memos.memo.Statement.{statement}
 use Rattle.mantissas.proofs.memos.memo.Tie as tie
 
-pub memo-spec : {M : Type 1} → statement M
-memo-spec =
+pub memo_spec : {M : Type 1} → statement M
+memo_spec =
     tie.close
     (tie.spec
     (λ c. search rules)  -- cast-at

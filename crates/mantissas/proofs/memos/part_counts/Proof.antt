@@ -6,10 +6,10 @@ use Rattle.mantissas.proofs.Counted.{silent_counts, no_more, none_counted}
 use Rattle.mantissas.proofs.memos.part_counts.Statement.{statement}
 use Rattle.mantissas.proofs.memos.part_counts.Tie as tie
 
-pub part-counts-spec : {M : Type 1} → statement M
-part-counts-spec =
+pub part_counts_spec : {M : Type 1} → statement M
+part_counts_spec =
     tie.close
     (tie.spec
-    (λ c. let s = c.before in (rw c.if1.true (silent_counts (s.args.p.end - s.args.p.start)), (no_more none_counted (omega arith), s.requires.1)))  -- returns
+    (λ c. (rw c.if-by.true (silent_counts (c.args.p.end - c.args.p.start)), (no_more none_counted (omega arith), c.requires.1)))  -- returns
     (λ c κs. search rules)  -- counts-of-requires
-    (λ c. let e = c.Counts-of.ensures in (rw c.before.before.if1.false e.0, e.1)))  -- returns-2
+    (λ c. let e = c.counts_of.ensures in (rw c.if-by.false e.0, e.1)))  -- returns-2

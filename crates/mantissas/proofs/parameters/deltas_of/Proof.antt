@@ -1,9 +1,9 @@
 -- `mantissas::parameters::deltas_of` meets its contract: the test says whether the slot is LFE. Assumes nothing.
 use mathlib.Core.List.{[]}
-use mathlib.Core.Path.{◌≡◌, refl, sym, ◌∙◌}
+use mathlib.Core.Path.{◌≡◌, refl}
 use Prim.Native.Nat.{◌+◌, ◌*◌, ◌<◌}
 use native.Mathlib.Omega.{arith}
-use lib.ListN.{length, length-map, get_or}
+use lib.ListN.{length, get_or}
 use borrow.Author.Rules.{rules}
 use borrow.Author.Tests.{eq-eqb, ne_eqb}
 use Rattle.slots.specs.Slots.{no_deltas}
@@ -16,14 +16,14 @@ use Rattle.mantissas.proofs.parameters.deltas_of.Tie as tie
 none_sound : SoundSegments no_deltas
 none_sound = record { count = omega arith; codes = λ n. every_replicate (λ x. x < 8) 0 24 0 (omega arith) (omega arith) (n * 3 + 2) }
 
-there : (s : tie.Start) → get_or s.args.t1.deltas s.args.slot (record { count = 0; segments = [] }) ≡ get_or s.args.t1.deltas s.args.slot no_deltas
-there s = let seven : length s.args.t1.deltas ≡ 7 = sym (length-map s.args.t1.deltas _) ∙ s.well-formed.0.1.1.1.1.1.0.1.0.1 in same_entry_lem s.args.t1.deltas s.args.slot _ no_deltas (omega arith)
+there : (s : tie.Start) → get_or s.args.st.deltas s.args.slot (record { count = 0; segments = [] }) ≡ get_or s.args.st.deltas s.args.slot no_deltas
+there s = let seven : length s.args.st.deltas ≡ 7 = s.well_formed.0.1.1.1.1.1.0.1.0.1 in same_entry_lem s.args.st.deltas s.args.slot _ no_deltas (omega arith)
 
-pub deltas-of-spec : {M : Type 1} → statement M
-deltas-of-spec =
+pub deltas_of_spec : {M : Type 1} → statement M
+deltas_of_spec =
     tie.close
     (tie.spec
-    (λ c. rw (eq-eqb _ 6 c.if1.true) (refl, none_sound))  -- returns
+    (λ c. rw (eq-eqb _ 6 c.if-slot-eq-LFE.true) (refl, none_sound))  -- returns
     (λ c. search rules)  -- mul_result
     (λ c. search rules)  -- element_copy_out_result
-    (λ c. let s = c.before.before in rw (ne_eqb _ 6 c.before.if1.false, there s) (refl, s.requires.1.deltas s.args.slot)))  -- returns-2
+    (λ c. rw (ne_eqb _ 6 c.if-slot-eq-LFE.false, there c.before.before) (refl, c.requires.1.deltas c.args.slot)))  -- returns-2

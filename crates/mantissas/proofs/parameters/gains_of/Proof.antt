@@ -3,8 +3,8 @@ use borrow.Author.Rules.{rules}
 use Rattle.mantissas.proofs.parameters.gains_of.Statement.{statement}
 use Rattle.mantissas.proofs.parameters.gains_of.Tie as tie
 
-pub gains-of-spec : {M : Type 1} → statement M
-gains-of-spec =
+pub gains_of_spec : {M : Type 1} → statement M
+gains_of_spec =
     tie.close
     (tie.spec
     (λ c κs. search rules)  -- fast-decay-requires
@@ -15,4 +15,4 @@ gains-of-spec =
     (λ c.
     let t3 = c.before in
     let t2 = t3.before.before in
-    rw (t2.before.fast-decay.ensures, t2.slow-decay.ensures, t3.fast-gain.ensures, c.slow-gain.ensures)))  -- returns
+    rw (t2.before.fast_decay.ensures, t2.slow_decay.ensures, t3.fast_gain.ensures, c.slow_gain.ensures)))  -- returns

@@ -8,32 +8,25 @@ use Rattle.mantissas.proofs.parameters.parameters_of.Tie as tie
 
 returns : tie.Need-returns
 returns c =
-    let t8 = c.before in
-    let t7 = t8.before.before.before in
-    let t6 = t7.before in
-    let t5 = t6.before in
-    let t4 = t5.before.before.before.before in
-    let t3 = t4.before in
-    let s = t3.before.before.before.before in
-    let sound = s.requires.1.offsets in
-    let snr = back_32 t8.snr-offset.result t8.snr-offset.type-inv ∙ t8.snr-offset.ensures in
-    let floor = back_32 c.floor.result c.floor.type-inv in
-    let fast = back_32 t5.leak-of.result t5.leak-of.type-inv in
-    let slow = back_32 t6.leak-of2.result t6.leak-of2.type-inv in (
-      rw (snr, floor ∙ c.floor.ensures.0, fast ∙ t5.leak-of.ensures.0, slow ∙ t6.leak-of2.ensures.0, t7.db-knee.ensures, t4.deltas-of.ensures.0, t3.gains-of.ensures),
+    let sound = c.requires.1.offsets in
+    let snr = back_32 c.snr_offset.result c.snr_offset.type_inv ∙ c.snr_offset.ensures in
+    let floor = back_32 c.floor.result c.floor.type_inv in
+    let fast = back_32 c.leak_of.result c.leak_of.type_inv in
+    let slow = back_32 c.leak_of-2.result c.leak_of-2.type_inv in (
+      rw (snr, floor ∙ c.floor.ensures.0, fast ∙ c.leak_of.ensures.0, slow ∙ c.leak_of-2.ensures.0, c.db_knee.ensures, c.deltas_of-deltas.ensures.0, c.gains_of-gains.ensures),
       record {
-        end = s.requires.2.end;
-        fscod = s.requires.0;
-        count = t4.deltas-of.ensures.1.count;
-        fastleak = rw fast t5.leak-of.ensures.1;
-        slowleak = rw slow t6.leak-of2.ensures.1;
-        snroffset = below_is snr (snr_below _ _ sound.csnroffst (sound.fsnroffst s.args.p.slot));
+        end = c.requires.2.end;
+        fscod = c.requires.0;
+        count = c.deltas_of-deltas.ensures.1.count;
+        fastleak = rw fast c.leak_of.ensures.1;
+        slowleak = rw slow c.leak_of-2.ensures.1;
+        snroffset = below_is snr (snr_below _ _ sound.csnroffst (sound.fsnroffst c.args.p.slot));
         floor = rw floor c.floor.ensures.1;
       },
     )
 
-pub parameters-of-spec : {M : Type 1} → statement M
-parameters-of-spec =
+pub parameters_of_spec : {M : Type 1} → statement M
+parameters_of_spec =
     tie.close
     (tie.spec
     (λ c. search rules)  -- cast-at
@@ -47,7 +40,6 @@ parameters-of-spec =
     (λ c. search rules)  -- cast-count
     (λ c. search rules)  -- element-copy-out-snr-offset
     (λ c κs.
-    let s = c.before.before.before.before.before.before.before.before.before.before.before.before.before in
-    (s.requires.1.offsets.csnroffst, s.requires.1.offsets.fsnroffst s.args.p.slot))  -- snr-offset-requires
+    (c.requires.1.offsets.csnroffst, c.requires.1.offsets.fsnroffst c.args.p.slot))  -- snr-offset-requires
     (λ c κs. search rules)  -- floor-requires
     returns)

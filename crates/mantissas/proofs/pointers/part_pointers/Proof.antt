@@ -4,16 +4,16 @@ use Rattle.mantissas.proofs.Allocated.{none_below, silent_lists}
 use Rattle.mantissas.proofs.pointers.part_pointers.Statement.{statement}
 use Rattle.mantissas.proofs.pointers.part_pointers.Tie as tie
 
-silent : tie.Need-returns
+silent : tie.Need-returns-then-by
 silent c =
-    let p = c.before.before.args.p in
-    rw (c.if1.true, c.before.zeros.ensures) (silent_lists 256 p.start p.end, none_below 256)
+    let p = c.args.p in
+    rw (c.if-by.true, c.zeros-pointers.ensures) (silent_lists 256 p.start p.end, none_below 256)
 
-pub part-pointers-spec : {M : Type 1} → statement M
-part-pointers-spec =
+pub part_pointers_spec : {M : Type 1} → statement M
+part_pointers_spec =
     tie.close
     (tie.spec
     (λ c κs. search rules)  -- zeros-requires
     silent
-    (λ c κs. let s = c.before.before.before in (rw c.before.before.zeros.ensures, rw c.before.before.zeros.ensures (none_below 256), s.requires.0, s.requires.1, s.requires.2))  -- slot-pointers-requires
-    (λ c. (rw c.before.before.if1.false c.slot-pointers.ensures.0, c.slot-pointers.ensures.1)))  -- returns-2
+    (λ c κs. (rw c.zeros-pointers.ensures, rw c.zeros-pointers.ensures (none_below 256), c.requires.0, c.requires.1, c.requires.2))  -- slot-pointers-requires
+    (λ c. (rw c.if-by.false c.slot_pointers.ensures.0, c.slot_pointers.ensures.1)))  -- returns-2

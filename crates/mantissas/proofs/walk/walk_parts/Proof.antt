@@ -16,48 +16,43 @@ use Rattle.mantissas.proofs.Allocated.{first_part}
 use Rattle.mantissas.proofs.walk.walk_parts.Statement.{statement}
 use Rattle.mantissas.proofs.walk.walk_parts.Tie as tie
 
-abbrev invariant-loop : tie.invariant-loop
-invariant-loop item by exps ps counts₀ cursor₀ count i₀ counts cursor i =
+abbrev invariant-loop-i : tie.invariant-loop-i
+invariant-loop-i item by exps ps counts₀ cursor₀ count i₀ counts cursor i =
     (walked item (widths (open_after counts) (all_pointers by.fscod by.st exps by.silent (between no_part ps.list i count))) cursor
     ≡ walked item (widths none_open (all_pointers by.fscod by.st exps by.silent (listed ps))) cursor₀)
     × AtMost (253 * i) counts
 
-abbrev decreases-loop : tie.decreases-loop
-decreases-loop item by exps ps counts₀ cursor₀ count i₀ counts cursor i = count - i
+abbrev decreases-loop-i : tie.decreases-loop-i
+decreases-loop-i item by exps ps counts₀ cursor₀ count i₀ counts cursor i = count - i
 
-again : tie.Need-loop-preserved invariant-loop decreases-loop
+again : tie.Need-loop-i-preserved invariant-loop-i decreases-loop-i
 again c =
-    let w = c.before.before in
-    let p = w.before.before.before.before in
-    let test = p.before.before in
-    let s = test.before.before in
-    let at = test.before.loop in
-    let part = get_or s.args.t5.list at.i no_part in
-    let step = first_part s.args.by.fscod s.args.by.st s.args.exps.now s.args.by.silent s.args.t5.list test.loop-test.true in (
-      rw (w.walk-bins.ensures.0, w.walk-bins.ensures.1, p.part-pointers.ensures.0)
-          (sym (walked_append s.args.item _ _ at.cursor) ∙ (rw (step, widths_append at.counts) at at.invariant.0)),
-      rw w.walk-bins.ensures.0 (no_more (bins_at_most at.counts p.part-pointers.result part.start part.end (s.requires.2.each at.i).end at.invariant.1) (omega arith)),
+    let at = c.loop-i in
+    let part = get_or c.args.ps.list at.i no_part in
+    let step = first_part c.args.by.fscod c.args.by.st c.args.exps.now c.args.by.silent c.args.ps.list c.loop-i-test.true in (
+      rw (c.walk_bins-walked.ensures.0, c.walk_bins-walked.ensures.1, c.part_pointers-pointers.ensures.0)
+          (sym (walked_append c.args.item _ _ at.cursor) ∙ (rw (step, widths_append at.counts) at at.invariant.0)),
+      rw c.walk_bins-walked.ensures.0 (no_more (bins_at_most at.counts c.part_pointers-pointers.result part.start part.end (c.requires.2.each at.i).end at.invariant.1) (omega arith)),
     )
 
-returns : tie.Need-returns invariant-loop decreases-loop
+returns : tie.Need-returns invariant-loop-i decreases-loop-i
 unfolding all_pointers widths walked
-returns c = rw (between_none no_part c.before.before.args.t5.list c.loop-test.false) at c.before.loop.invariant.0
+returns c = rw (between_none no_part c.args.ps.list c.loop-i-test.false) at c.loop-i.invariant.0
 
-pub walk-parts-spec : {M : Type 1} → statement M
-walk-parts-spec =
+pub walk_parts_spec : {M : Type 1} → statement M
+walk_parts_spec =
     tie.close
     (tie.spec
-    invariant-loop
-    decreases-loop
+    invariant-loop-i
+    decreases-loop-i
     (λ c. (refl, none_counted))  -- loop_holds
     (λ c. search rules)  -- mul-p
     (λ c. search rules)  -- element-copy-out-p
-    (λ c κs. let s = c.before.before.before in (s.requires.0, s.requires.1, s.requires.2.each c.before.before.loop.i))  -- part-pointers-requires
+    (λ c κs. (c.requires.0, c.requires.1, c.requires.2.each c.loop-i.i))  -- part-pointers-requires
     (λ c. search rules)  -- cast-start
     (λ c. search rules)  -- cast-end
     (λ c κs.
-    let at = c.before.before.before.before.before.before in
-    (no_more at.loop.invariant.1 (omega arith), ((at.before.requires.2.each at.loop.i).end, c.before.before.before.part-pointers.ensures.1)))  -- walk-bins-requires
+    (no_more c.loop-i.invariant.1 (omega arith), ((c.requires.2.each c.loop-i.i).end, c.part_pointers-pointers.ensures.1)))  -- walk-bins-requires
     (λ c. search rules)  -- add-i
     (λ c. search rules)  -- loop-less
     again

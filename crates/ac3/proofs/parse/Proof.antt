@@ -22,13 +22,13 @@ told : (capture : List ℕ) (place : ℕ) (room : List ℤ) {a : Answer} {after 
     → ((a, after) ≡ answer capture place room) × (Promised (call capture place room) a after × Within (call capture place room) a after)
 told capture place room e = let kept = promised (call capture place room) e in (e, (kept, kept_within _ _ _ kept))
 
-past : tie.Need-returns
+past : tie.Need-returns-then-capture-place
 past c =
     let start = c.before.before.before.before in
     told start.args.capture.now start.args.place start.args.rows.now
-    (rw (c.refused.ensures, c.before.halt.ensures, drop_of_length-le start.args.capture.now {i = start.args.place} (omega (arith, c.before.before.if1.true))) (told_nothing _))
+    (rw (c.refused.ensures, c.before.halt.ensures, drop_of_length-le start.args.capture.now {i = start.args.place} (omega (arith, c.before.before.if-capture-place.true))) (told_nothing _))
 
-within : tie.Need-returns-2
+within : tie.Need-returns
 within c =
     let t1 = c.before in
     let start = c.before.before.before.before.before.before in
@@ -36,8 +36,8 @@ within c =
     told start.args.capture.now start.args.place start.args.rows.now
     (rw (take_all (length start.args.capture.now - start.args.place) rest (omega (arith, length-drop start.args.place start.args.capture.now))) at t1.syncframe.ensures)
 
-pub parse-spec : {M : Type 1} → statement M
-parse-spec =
+pub parse_spec : {M : Type 1} → statement M
+parse_spec =
     tie.close
     (tie.spec
     (λ c κs. search rules)  -- halt-requires

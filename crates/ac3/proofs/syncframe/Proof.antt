@@ -9,26 +9,26 @@ use Rattle.ac3.proofs.Told.{ends_there, goes_on}
 use Rattle.ac3.proofs.syncframe.Statement.{statement}
 use Rattle.ac3.proofs.syncframe.Tie as tie
 
-no_header : tie.Need-returns
+no_header : tie.Need-returns-then-cursor-ne0
 unfolding answered
 no_header c =
     let t1 = c.before.before.before.before.before.before in
-    rw c.refused.ensures (ap answered (ends_there t1.read.ensures.0 c.before.if1.true))
+    rw c.refused.ensures (ap answered (ends_there t1.read-head.ensures.0 c.before.if-cursor-ne0.true))
 
-blocks : tie.Need-returns-2
+blocks : tie.Need-returns
 blocks c =
     let t2 = c.before in
     let t1 = t2.before.before.before.before.before.before.before in
-    t2.blocks-after.ensures ∙ ap answered (goes_on t1.read.ensures.0 t2.before.before.if1.false)
+    t2.blocks_after.ensures ∙ ap answered (goes_on t1.read-head.ensures.0 t2.before.before.if-cursor-ne0.false)
 
-pub syncframe-spec : {M : Type 1} → statement M
-syncframe-spec =
+pub syncframe_spec : {M : Type 1} → statement M
+syncframe_spec =
     tie.close
     (tie.spec
     (λ c κs. search rules)  -- read-requires
-    (λ c κs. let t1 = c.before.before.before.before.before in small (marked_header {w = true}) t1.read.ensures.0 refl c.if1.true)  -- refused-requires
+    (λ c κs. let t1 = c.before.before.before.before.before in small (marked_header {w = true}) t1.read-head.ensures.0 refl c.if-cursor-ne0.true)  -- refused-requires
     (λ c. search rules)  -- same-length
     no_header
-    (λ c κs. (c.before.if1.false, c.before.before.before.before.before.before.read.ensures.1))  -- blocks-after-requires
+    (λ c κs. (c.before.if-cursor-ne0.false, c.before.before.before.before.before.before.read-head.ensures.1))  -- blocks-after-requires
     (λ c. search rules)  -- same-length-2
     blocks)

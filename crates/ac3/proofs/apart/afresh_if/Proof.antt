@@ -7,20 +7,20 @@ use Rattle.ac3.proofs.HeaderAndBlocks.{afresh_is}
 use Rattle.ac3.proofs.apart.afresh_if.Statement.{statement}
 use Rattle.ac3.proofs.apart.afresh_if.Tie as tie
 
-taken : tie.Need-returns
+taken : tie.Need-returns-then-fits
 taken c =
     let t1 = c.before in
     let a = t1.before.before.before.before.args in
-    rw (afresh_is a.fits (call a.capture.now a.place a.rows.now), t1.before.before.if1.true) t1.parse.ensures.0
+    rw (afresh_is a.fits (call a.capture.now a.place a.rows.now), t1.before.before.if-fits.true) t1.parse.ensures.0
 
-untouched : tie.Need-returns-2
+untouched : tie.Need-returns
 untouched c =
     let t2 = c.before in
     let a = t2.before.before.before.args in
-    rw (afresh_is a.fits (call a.capture.now a.place a.rows.now), t2.before.if1.false, c.refused.ensures, t2.halt.ensures)
+    rw (afresh_is a.fits (call a.capture.now a.place a.rows.now), t2.before.if-fits.false, c.refused.ensures, t2.halt.ensures)
 
-pub afresh-if-spec : {M : Type 1} → statement M
-afresh-if-spec =
+pub afresh_if_spec : {M : Type 1} → statement M
+afresh_if_spec =
     tie.close
     (tie.spec
     (λ c κs. search rules)  -- parse-requires

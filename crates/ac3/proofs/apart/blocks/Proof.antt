@@ -14,11 +14,11 @@ returns c =
     let t3 = t2.before in
     let t4 = t3.before.before in
     let a = t4.before.before.args in
-    t1.afresh-if.ensures
-    ∙ rw (t2.both.ensures, t3.same_answer_lem.ensures, t4.header-again.ensures a.rows.now refl)
+    t1.afresh_if.ensures
+    ∙ rw (t2.both-fits.ensures, t3.same_answer.ensures, t4.header_again-own.ensures a.rows.now refl)
 
-pub blocks-spec : {M : Type 1} → statement M
-blocks-spec =
+pub blocks_spec : {M : Type 1} → statement M
+blocks_spec =
     tie.close
     (tie.spec
     (λ c κs. search rules)  -- header-again-requires

@@ -26,17 +26,17 @@ returns c l long =
     let t1 = c.before in
     let t2 = t1.before.before in
     let a = t2.before.before.args in
-    let n = t2.least.result in
-    let is = t2.least.ensures in
+    let n = t2.least-n.result in
+    let is = t2.least-n.ensures in
     ap (λ x. x.0) t1.header.ensures
     ∙ sym (as_good (call a.capture.now a.place l) (take n own) (let numbers = lent n (omega (arith, is)) in omega (arith, is, long, numbers)))
 
-pub header-again-spec : {M : Type 1} → statement M
-header-again-spec =
+pub header_again_spec : {M : Type 1} → statement M
+header_again_spec =
     tie.close
     (tie.spec
     (λ c κs. search rules)  -- least-requires
     (λ c. search rules)  -- array-borrow-prefix-own
-    (λ c. sym (lent _ (omega (arith, c.before.least.ensures))))  -- slice-aggregate-header
+    (λ c. sym (lent _ (omega (arith, c.before.least-n.ensures))))  -- slice-aggregate-header
     (λ c κs. search rules)  -- header-requires
     returns)

@@ -11,10 +11,10 @@ returns c =
     let t4 = t3.before.before.before in
     let t5 = t4.before.before.before in
     let t6 = t5.before.before.before in
-    rw (c.both5.ensures, t2.same_header_lem.ensures, t3.both4.ensures, t4.both3.ensures, t5.both2.ensures, t6.both.ensures)
+    rw (c.both.ensures, t2.same_header.ensures, t3.both-blocks.ensures, t4.both-names.ensures, t5.both-bits.ensures, t6.both-counts.ensures)
 
-pub same-answer-spec : {M : Type 1} → statement M
-same-answer-spec =
+pub same_answer_spec : {M : Type 1} → statement M
+same_answer_spec =
     tie.close
     (tie.spec
     (λ c κs. search rules)  -- both-requires

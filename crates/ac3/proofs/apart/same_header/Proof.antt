@@ -10,10 +10,10 @@ returns c =
     let t3 = t2.before in
     let t4 = t3.before.before.before in
     let t5 = t4.before.before.before in
-    rw (c.both4.ensures, t2.same_flag.ensures, t3.both3.ensures, t4.both2.ensures, t5.both.ensures)
+    rw (c.both.ensures, t2.same_flag.ensures, t3.both-modes.ensures, t4.both-ids.ensures, t5.both-sizes.ensures)
 
-pub same-header-spec : {M : Type 1} → statement M
-same-header-spec =
+pub same_header_spec : {M : Type 1} → statement M
+same_header_spec =
     tie.close
     (tie.spec
     (λ c κs. search rules)  -- both-requires

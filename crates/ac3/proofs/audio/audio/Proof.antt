@@ -18,49 +18,49 @@ use Rattle.ac3.proofs.Start.{sound_state, sound_exps}
 use Rattle.ac3.proofs.audio.audio.Statement.{statement}
 use Rattle.ac3.proofs.audio.audio.Tie as tie
 
-abbrev invariant-loop : tie.invariant-loop
-invariant-loop s rows₀ header exps₀ memos₀ state₀ tally₀ had₀ cursor₀ blk₀ rows exps memos state tally had cursor blk =
+abbrev invariant-loop-blk : tie.invariant-loop-blk
+invariant-loop-blk s rows₀ header exps₀ memos₀ state₀ tally₀ had₀ cursor₀ blk₀ rows exps memos state tally had cursor blk =
     ((blocks : List Sending)
     × Turns (audio_block header) 0 6 unread s cursor₀ rows₀ blk
     (record { state = state; exps = exps; tally = tally; blocks = blocks }) cursor rows
     × Tallied blocks tally.coordinates had)
     × SoundState state × SoundExps exps × (tally.coupled ≤ blk) × Kept header.fscod memos exps
 
-abbrev decreases-loop : tie.decreases-loop
-decreases-loop s rows₀ header exps₀ memos₀ state₀ tally₀ had₀ cursor₀ blk₀ rows exps memos state tally had cursor blk = 6 - blk
+abbrev decreases-loop-blk : tie.decreases-loop-blk
+decreases-loop-blk s rows₀ header exps₀ memos₀ state₀ tally₀ had₀ cursor₀ blk₀ rows exps memos state tally had cursor blk = 6 - blk
 
-starts : tie.Need-loop-init invariant-loop decreases-loop
+starts : tie.Need-loop-blk-init invariant-loop-blk decreases-loop-blk
 starts c =
-    rw (c.before.unsent.ensures, c.uncounted.ensures) (([], begins, none_tallied), sound_state, sound_exps, omega arith, kept_none _ _)
+    rw (c.before.unsent-state.ensures, c.uncounted-tally.ensures) (([], begins, none_tallied), sound_state, sound_exps, omega arith, kept_none _ _)
 
-early : tie.Need-returns invariant-loop decreases-loop
+early : tie.Need-returns-then-cursor-ne0 invariant-loop-blk decreases-loop-blk
 unfolding audio
-early c = then _ (leaves c.before.before.before.loop.invariant.0.1 c.if1.true) (stopped c.if1.true)
+early c = then _ (leaves c.before.before.before.loop-blk.invariant.0.1 c.if-cursor-ne0.true) (stopped c.if-cursor-ne0.true)
 
-again : tie.Need-loop-preserved invariant-loop decreases-loop
+again : tie.Need-loop-blk-preserved invariant-loop-blk decreases-loop-blk
 again c =
     let t = c.before.before.before.before.before in
     let test = t.before.before.before.before.before.before in
-    let after = t.audio-block.ensures in
-    let before = test.before.loop.invariant.0 in
+    let after = t.audio_block-block.ensures in
+    let before = test.before.loop-blk.invariant.0 in
     let next = after.0 before.0 before.2 in (
-      (before.0 ++ next.0 ∷ [], turn before.1 test.loop-test.true next.1, next.2),
+      (before.0 ++ next.0 ∷ [], turn before.1 test.loop-blk-test.true next.1, next.2),
       after.1.0,
       after.1.1.0,
       after.1.1.1.0,
       after.1.1.1.1,
     )
 
-reads : tie.Need-returns-2 invariant-loop decreases-loop
+reads : tie.Need-returns invariant-loop-blk decreases-loop-blk
 unfolding audio
-reads c = then _ (ends c.before.loop.invariant.0.1 c.loop-test.false) (then _ standing finished)
+reads c = then _ (ends c.before.loop-blk.invariant.0.1 c.loop-blk-test.false) (then _ standing finished)
 
-pub audio-spec : {M : Type 1} → statement M
-audio-spec =
+pub audio_spec : {M : Type 1} → statement M
+audio_spec =
     tie.close
     (tie.spec
-    invariant-loop
-    decreases-loop
+    invariant-loop-blk
+    decreases-loop-blk
     (λ c κs. search rules)  -- unsent-requires
     (λ c κs. search rules)  -- uncounted-requires
     starts
@@ -68,8 +68,8 @@ audio-spec =
     early
     (λ c κs.
     let test = c.before.before.before.before.before in
-    let inv = test.before.loop.invariant in
-    ((test.loop-test.true, inv.3), (test.before.before.before.before.before.requires, (inv.1, (inv.2, inv.4)))))  -- audio-block-requires
+    let inv = test.before.loop-blk.invariant in
+    ((test.loop-blk-test.true, inv.3), (test.before.before.before.before.before.requires, (inv.1, (inv.2, inv.4)))))  -- audio-block-requires
     (λ c. search rules)  -- add-blk
     (λ c. search rules)  -- loop-less
     again

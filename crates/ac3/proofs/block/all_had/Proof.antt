@@ -21,45 +21,45 @@ wanting true true e = sym e
 wanting true false e = refl
 wanting false had e = sym e
 
-abbrev invariant-loop : tie.invariant-loop
-invariant-loop chincpl had ch₀ ch = (k : ℕ) → k < ch → (not (get_or chincpl k false) || get_or had k false) ≡ true
+abbrev invariant-loop-ch : tie.invariant-loop-ch
+invariant-loop-ch chincpl had ch₀ ch = (k : ℕ) → k < ch → (not (get_or chincpl k false) || get_or had k false) ≡ true
 
-abbrev decreases-loop : tie.decreases-loop
-decreases-loop chincpl had ch₀ ch = 5 - ch
+abbrev decreases-loop-ch : tie.decreases-loop-ch
+decreases-loop-ch chincpl had ch₀ ch = 5 - ch
 
-fails : tie.Need-returns invariant-loop decreases-loop
+fails : tie.Need-returns-then-and_not invariant-loop-ch decreases-loop-ch
 fails c =
     let t1 = c.before in
     let args = t1.before.before.before.args in
-    let ch = t1.before.before.loop.ch in
+    let ch = t1.before.before.loop-ch.ch in
     sym
     (every_fails
-    (λ k. not (get_or args.t1 k false) || get_or args.t2 k false)
+    (λ k. not (get_or args.chincpl k false) || get_or args.had k false)
     5
     ch
     (search rules)
-    (wanting (get_or args.t1 ch false) (get_or args.t2 ch false) (sym t1.and-not.ensures ∙ c.if1.true)))
+    (wanting (get_or args.chincpl ch false) (get_or args.had ch false) (sym t1.and_not.ensures ∙ c.if-and_not.true)))
 
-again : tie.Need-loop-preserved invariant-loop decreases-loop
+again : tie.Need-loop-ch-preserved invariant-loop-ch decreases-loop-ch
 again c =
     let t1 = c.before in
     let args = t1.before.before.before.args in
-    let ch = t1.before.before.loop.ch in
+    let ch = t1.before.before.loop-ch.ch in
     below_more
     _
     ch
-    t1.before.before.loop.invariant
-    (good (get_or args.t1 ch false) (get_or args.t2 ch false) (sym t1.and-not.ensures ∙ c.if1.false))
+    t1.before.before.loop-ch.invariant
+    (good (get_or args.chincpl ch false) (get_or args.had ch false) (sym t1.and_not.ensures ∙ c.if-and_not.false))
 
-holds : tie.Need-returns-2 invariant-loop decreases-loop
-holds c = sym (every_all _ 5 (λ k l. c.before.loop.invariant k (omega arith)))
+holds : tie.Need-returns invariant-loop-ch decreases-loop-ch
+holds c = sym (every_all _ 5 (λ k l. c.before.loop-ch.invariant k (omega arith)))
 
-pub all-had-spec : {M : Type 1} → statement M
-all-had-spec =
+pub all_had_spec : {M : Type 1} → statement M
+all_had_spec =
     tie.close
     (tie.spec
-    invariant-loop
-    decreases-loop
+    invariant-loop-ch
+    decreases-loop-ch
     (λ c k l. absurd (omega arith))  -- loop_holds
     (λ c. search rules)  -- array-read-and-not
     (λ c. search rules)  -- array-read-and-not-2

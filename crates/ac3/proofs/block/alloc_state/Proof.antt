@@ -11,16 +11,16 @@ reads c =
     let t3 = t4.before.before.before.before in
     let t2 = t3.before.before.before in
     let t1 = t2.before.before.before in (
-      then _ t1.curve.ensures.0
-          (then _ t2.offsets.ensures.0
-          (then _ t3.coupling-leak.ensures.0
-          (then _ t4.deltas.ensures.0
+      then _ t1.curve-one.ensures.0
+          (then _ t2.offsets-two.ensures.0
+          (then _ t3.coupling_leak-three.ensures.0
+          (then _ t4.deltas-four.ensures.0
           finished))),
-      record { curve = t1.curve.ensures.1; offsets = t2.offsets.ensures.1; leak = t3.coupling-leak.ensures.1; deltas = t4.deltas.ensures.1 },
+      record { curve = t1.curve-one.ensures.1; offsets = t2.offsets-two.ensures.1; leak = t3.coupling_leak-three.ensures.1; deltas = t4.deltas-four.ensures.1 },
     )
 
-pub alloc-state-spec : {M : Type 1} → statement M
-alloc-state-spec =
+pub alloc_state_spec : {M : Type 1} → statement M
+alloc_state_spec =
     tie.close
     (tie.spec
     (λ c κs. c.before.before.requires.1.curve)  -- curve-requires

@@ -12,13 +12,13 @@ reads c =
     let t3 = t4.before.before.before in
     let t2 = t3.before.before.before in
     let t1 = t2.before.before in
-    rw (← t1.nfchans.ensures.0)
-    (then _ t2.flags.ensures
-    (then _ t3.flags2.ensures
-    t4.dynamic-ranges.ensures))
+    rw (← t1.nfchans-n.ensures.0)
+    (then _ t2.flags-blksw.ensures
+    (then _ t3.flags-dithflag.ensures
+    t4.dynamic_ranges.ensures))
 
-pub channel-settings-spec : {M : Type 1} → statement M
-channel-settings-spec =
+pub channel_settings_spec : {M : Type 1} → statement M
+channel_settings_spec =
     tie.close
     (tie.spec
     (λ c κs. search rules)  -- nfchans-requires

@@ -23,4 +23,4 @@ counted_spec =
     (λ c κs. omega (arith, c.before.before.before.before.requires))  -- one-more-if-requires
     (λ c.
     let start = c.before.before.before.before.before in
-    rw (c.one-more-if.ensures, c.before.with-block.ensures) (refl, one_more start.args.cplinu start.args.t.coupled start.args.blk start.requires.1)))  -- returns
+    rw (c.one_more_if.ensures, c.before.with_block-bits.ensures) (refl, one_more start.args.cplinu start.args.t.coupled start.args.blk start.requires.1)))  -- returns

@@ -12,11 +12,11 @@ reads c =
     let t3 = t4.before.before in
     let t2 = t3.before.before in
     let t1 = t2.before.before in
-    then _ (rw t1.one-roled.ensures at t2.flag.ensures)
-    (rw t3.one-roled2.ensures at t4.note-if.ensures)
+    then _ (rw t1.one_roled-exists.ensures at t2.flag-dynrnge.ensures)
+    (rw t3.one_roled-dynrng.ensures at t4.note_if.ensures)
 
-pub dynamic-range-spec : {M : Type 1} → statement M
-dynamic-range-spec =
+pub dynamic_range_spec : {M : Type 1} → statement M
+dynamic_range_spec =
     tie.close
     (tie.spec
     (λ c. search rules)  -- mul-one-roled

@@ -6,27 +6,27 @@ use Rattle.ac3.specs.AudioBlock.{dynamic_range}
 use Rattle.ac3.proofs.block.dynamic_ranges.Statement.{statement}
 use Rattle.ac3.proofs.block.dynamic_ranges.Tie as tie
 
-abbrev invariant-loop : tie.invariant-loop
-invariant-loop s rows₀ blk acmod last cursor₀ p₀ rows cursor p = Turns (λ i _. dynamic_range blk i) 0 last tt s cursor₀ rows₀ p tt cursor rows
+abbrev invariant-loop-p : tie.invariant-loop-p
+invariant-loop-p s rows₀ blk acmod last cursor₀ p₀ rows cursor p = Turns (λ i _. dynamic_range blk i) 0 last tt s cursor₀ rows₀ p tt cursor rows
 
-abbrev decreases-loop : tie.decreases-loop
-decreases-loop s rows₀ blk acmod last cursor₀ p₀ rows cursor p = last - p
+abbrev decreases-loop-p : tie.decreases-loop-p
+decreases-loop-p s rows₀ blk acmod last cursor₀ p₀ rows cursor p = last - p
 
-again : tie.Need-loop-preserved invariant-loop decreases-loop
+again : tie.Need-loop-p-preserved invariant-loop-p decreases-loop-p
 again c =
     let t = c.before in
     let test = t.before.before in
-    turn test.before.loop.invariant test.loop-test.true t.dynamic-range.ensures
+    turn test.before.loop-p.invariant test.loop-p-test.true t.dynamic_range-cursor.ensures
 
-reads : tie.Need-returns invariant-loop decreases-loop
-reads c = rw (← c.before.before.programmes.ensures.0) (ends c.before.loop.invariant c.loop-test.false)
+reads : tie.Need-returns invariant-loop-p decreases-loop-p
+reads c = rw (← c.before.before.programmes-last.ensures.0) (ends c.before.loop-p.invariant c.loop-p-test.false)
 
-pub dynamic-ranges-spec : {M : Type 1} → statement M
-dynamic-ranges-spec =
+pub dynamic_ranges_spec : {M : Type 1} → statement M
+dynamic_ranges_spec =
     tie.close
     (tie.spec
-    invariant-loop
-    decreases-loop
+    invariant-loop-p
+    decreases-loop-p
     (λ c κs. search rules)  -- programmes-requires
     (λ c. begins)  -- loop_holds
     (λ c κs. search rules)  -- dynamic-range-requires

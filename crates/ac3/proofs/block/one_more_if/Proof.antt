@@ -3,10 +3,10 @@ use borrow.Author.Rules.{rules}
 use Rattle.ac3.proofs.block.one_more_if.Statement.{statement}
 use Rattle.ac3.proofs.block.one_more_if.Tie as tie
 
-pub one-more-if-spec : {M : Type 1} → statement M
-one-more-if-spec =
+pub one_more_if_spec : {M : Type 1} → statement M
+one_more_if_spec =
     tie.close
     (tie.spec
     (λ c. search rules)  -- add_result
-    (λ c. rw c.if1.true)  -- returns
-    (λ c. rw c.if1.false))  -- returns-2
+    (λ c. rw c.if-more.true)  -- returns
+    (λ c. rw c.if-more.false))  -- returns-2

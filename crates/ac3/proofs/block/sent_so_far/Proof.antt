@@ -3,11 +3,11 @@ use borrow.Author.Rules.{rules}
 use Rattle.ac3.proofs.block.sent_so_far.Statement.{statement}
 use Rattle.ac3.proofs.block.sent_so_far.Tie as tie
 
-returns : tie.Need-returns
-returns c = rw c.before.if1.true c.all-had.ensures
+returns : tie.Need-returns-then-before
+returns c = rw c.before.if-before.true c.all_had.ensures
 
-pub sent-so-far-spec : {M : Type 1} → statement M
-sent-so-far-spec =
+pub sent_so_far_spec : {M : Type 1} → statement M
+sent_so_far_spec =
     tie.close
     (tie.spec
     (λ c κs. search rules)  -- all-had-requires

@@ -5,7 +5,7 @@ use Rattle.ac3.specs.AudioBlock.{skip_field}
 use Rattle.ac3.proofs.block.skip_field.Statement.{statement}
 use Rattle.ac3.proofs.block.skip_field.Tie as tie
 
-present : tie.Need-returns
+present : tie.Need-returns-then-skiple
 unfolding skip_field
 present c =
     let t6 = c.before in
@@ -14,21 +14,21 @@ present c =
     let t3 = t4.before in
     let t2 = t3.before.before.before.before in
     let t1 = t2.before in
-    then _ (rw t1.one-roled.ensures at t2.flag.ensures)
-    (rw t3.before.before.if1.true
-    (then _ (rw t3.one-roled2.ensures at t4.take.ensures.0)
-    (rw t5.one-roled3.ensures at (t6.pass.ensures t1.before.before.before.args.s.now))))
+    then _ (rw t1.one_roled.ensures at t2.flag-skiple.ensures)
+    (rw t3.before.before.if-skiple.true
+    (then _ (rw t3.one_roled-then-skiple.ensures at t4.take-skipl.ensures.0)
+    (rw t5.one_roled-skipfld.ensures at (t6.pass.ensures t1.before.before.before.args.s.now))))
 
-absent : tie.Need-returns-2
+absent : tie.Need-returns-else-skiple
 unfolding skip_field
 absent c =
     let t2 = c.before.before.before in
     let t1 = t2.before in
-    then _ (rw t1.one-roled.ensures at t2.flag.ensures)
-    (rw c.before.if1.false finished)
+    then _ (rw t1.one_roled.ensures at t2.flag-skiple.ensures)
+    (rw c.before.if-skiple.false finished)
 
-pub skip-field-spec : {M : Type 1} → statement M
-skip-field-spec =
+pub skip_field_spec : {M : Type 1} → statement M
+skip_field_spec =
     tie.close
     (tie.spec
     (λ c κs. search rules)  -- one-roled-requires

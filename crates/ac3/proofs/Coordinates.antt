@@ -7,7 +7,6 @@ use Prim.Native.Nat.{ℕ, zero, suc, ◌+◌}
 use Rattle.syntax.specs.Grammar.{Grammar, done, ◌>>=◌, turns}
 use Rattle.syntax.specs.Place.{Place, Outcome, got, no, and_then, exec, fresh}
 use Rattle.syntax.proofs.Bind.{exec_bind}
-use Rattle.header.specs.Header.{header}
 use Rattle.header.specs.declared.Header.{Header}
 use Rattle.ac3.specs.AudioBlock.{Carry, audio_block}
 use Rattle.ac3.specs.Coordinates.{flagged, flagged_carry, flagged_answer, Rule, block_by, audio_by, frame_by, CoordinatesIdle}

@@ -9,7 +9,7 @@ use lib.IntN.{ℤ}
 use lib.ListN.{length}
 use Rattle.syntax.specs.Place.{Place, finish}
 use Rattle.syntax.specs.Refusals.{full}
-use Rattle.syntax.specs.Run.{End, reached, refused, Result, start, parse, rows_of}
+use Rattle.syntax.specs.Run.{End, reached, refused, start, parse, rows_of}
 use Rattle.syntax.proofs.Agreement.{landed, exec_parse}
 use Rattle.header.specs.Header.{header}
 use Rattle.header.specs.declared.Header.{Header}

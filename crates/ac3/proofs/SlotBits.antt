@@ -20,7 +20,6 @@ use Rattle.syntax.specs.Numbers.{shown}
 use Rattle.syntax.specs.Place.{flatten}
 use Rattle.syntax.specs.Run.{steering, unsteering, Row, Spot, End, reached, refused, Result, Check, clear, stop, sum, unless, run, continue}
 use Rattle.syntax.proofs.Bind.{run_bind}
-use Rattle.header.specs.Header.{header}
 use Rattle.header.specs.declared.Header.{Header}
 use Rattle.slots.specs.declared.AllocState.{AllocState}
 use Rattle.slots.specs.declared.Coupling.{Coupling}

@@ -1,8 +1,6 @@
 -- What did not fit is told of the grammar; and the answer tells the grammar's refusal, unless it is accepted. Assumes nothing.
 use mathlib.Core.Path.{◌≡◌, refl, ap, sym, subst, ◌∙◌}
-use Prim.Native.Nat.{ℕ}
 use native.Mathlib.Omega.{arith}
-use Rattle.syntax.specs.declared.Refusal.{Refusal}
 use Rattle.syntax.specs.Run.{End, reached, refused}
 use Rattle.syntax.specs.Unfitting.{Next}
 use Rattle.ac3.specs.Frame.{Audio}

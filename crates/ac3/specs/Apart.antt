@@ -1,13 +1,13 @@
 -- Header and blocks apart: the header by itself, and the six blocks for one who holds a header answer. `HeaderAndBlocks` states
 -- that the whole parse is both in turn, and that exactly the header's own answer is taken.
-use Rattle.std.specs.Prelude.{Bool, false, ◌&&◌, not, cond, List, ◌≡◌, ℕ, eqb, ℤ}
+use Rattle.std.specs.Prelude.{Bool, false, ◌&&◌, not, cond, List, ℕ, eqb, ℤ}
 use Rattle.syntax.specs.declared.Refusal.{Refusal}
 use Rattle.syntax.specs.Refusals.{going}
 use Rattle.syntax.specs.Place.{Place, Outcome, got, no, exec, and_then, fresh}
 use Rattle.header.specs.Header.{header}
 use Rattle.header.specs.declared.Header.{Header}
 use Rattle.ac3.specs.Frame.{audio, no_summary, answered}
-use Rattle.ac3.specs.Promise.{Call, input, with_room, answer_to}
+use Rattle.ac3.specs.Promise.{Call, input, with_room}
 use Rattle.ac3.specs.declared.Answer.{Answer}
 use Rattle.ac3.specs.declared.HeaderAnswer.{HeaderAnswer}
 

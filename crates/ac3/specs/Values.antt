@@ -4,7 +4,7 @@ use Rattle.bits.specs.Bits.{value}
 use Rattle.tables.specs.Tables.{frame_bytes}
 use Rattle.alloc.specs.Allocation.{logadd, snr_offset, band_of, delta_of}
 use Rattle.syntax.specs.Refusals.{judged, too_short}
-use Rattle.syntax.specs.Grammar.{◌>>=◌, ◌>>◌, plain, framed}
+use Rattle.syntax.specs.Grammar.{◌>>◌, plain, framed}
 use Rattle.syntax.specs.Run.{sum, End, reached, refused, parse}
 use Rattle.slots.specs.Slots.{sub_bands, first_coupled, past_coupled, past_channel}
 use Rattle.slots.specs.declared.Coupling.{Coupling}

@@ -1,5 +1,5 @@
 -- `ac3::apart::afresh_if` meets its contract: header and blocks, from the header's first row on, are the whole parse. Assumes nothing.
-use mathlib.Core.Path.{ap, sym, ◌∙◌}
+use mathlib.Core.Path.{ap}
 use native.Mathlib.Omega.{arith}
 use borrow.Author.Rules.{rules}
 use Rattle.ac3.specs.Promise.{call}

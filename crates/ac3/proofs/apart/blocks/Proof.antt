@@ -1,9 +1,7 @@
 -- `ac3::apart::blocks` meets its contract: the claim is held against what the header is answered with for a room of this length. Assumes
 -- nothing.
-use mathlib.Core.Path.{refl, ap, ◌∙◌}
+use mathlib.Core.Path.{refl, ◌∙◌}
 use borrow.Author.Rules.{rules}
-use Rattle.ac3.specs.Apart.{afresh_if}
-use Rattle.ac3.specs.Promise.{call}
 use Rattle.ac3.proofs.apart.blocks.Statement.{statement}
 use Rattle.ac3.proofs.apart.blocks.Tie as tie
 

@@ -1,5 +1,4 @@
 -- `ac3::apart::same_header` meets its contract: each number is held against the other's. Assumes nothing.
-use mathlib.Core.Path.{◌∙◌}
 use borrow.Author.Rules.{rules}
 use Rattle.ac3.proofs.apart.same_header.Statement.{statement}
 use Rattle.ac3.proofs.apart.same_header.Tie as tie

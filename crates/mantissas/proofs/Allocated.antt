@@ -24,8 +24,8 @@ pub silent_lists : (n first last : ℕ) → between {A = ℕ} 0 (replicate n 0) 
 silent_lists n first last = from_same _ (λ _. 0) (last - first) first (λ k p q. cleared n k) ∙ from_constant 0 (last - first) first
 
 -- the slots that are left, and then those after the first of them
-pub first_part : (fscod : ℕ) (st : AllocState) (exps : List (List ℤ)) (isSilent : Bool) (list : List Part) {i count : ℕ} → i < count
-    → all_pointers fscod st exps isSilent (between no_part list i count)
-    ≡ part_pointers fscod st exps isSilent (get_or list i no_part) ++ all_pointers fscod st exps isSilent (between no_part list (i + 1) count)
+pub first_part : (fscod : ℕ) (st : AllocState) (exps : List (List ℤ)) (is_silent : Bool) (list : List Part) {i count : ℕ} → i < count
+    → all_pointers fscod st exps is_silent (between no_part list i count)
+    ≡ part_pointers fscod st exps is_silent (get_or list i no_part) ++ all_pointers fscod st exps is_silent (between no_part list (i + 1) count)
 unfolding all_pointers
-first_part fscod st exps isSilent list h = rw (between_one no_part list h)
+first_part fscod st exps is_silent list h = rw (between_one no_part list h)

@@ -1,7 +1,7 @@
 -- The rows of the definition's list stand in the room one after the other, so the first of a name in the one is the first in the other; and
 -- every row that is no span has the value that the bits there spell, because a run makes it so. Assumes nothing.
 use mathlib.Core.Bool.{Bool, true, false, cond}
-use mathlib.Core.List.{List, [], ◌∷◌, ◌++◌, append_assoc}
+use mathlib.Core.List.{List, [], ◌∷◌, ◌++◌}
 use mathlib.Core.Path.{◌≡◌, refl, sym, ap, subst, ◌∙◌}
 use Prim.Native.Nat.{ℕ, zero, suc, ◌+◌, ◌*◌, ◌≤◌, ◌<◌}
 use native.Mathlib.Decide.{dec_le}
@@ -18,10 +18,10 @@ use Rattle.syntax.specs.Place.{flatten}
 use Rattle.syntax.specs.Rows.{is_span}
 use Rattle.syntax.specs.Run.{Row, Spot, Result, Check, clear, stop, unless, run, sum, beyond, within, start}
 use Rattle.ac3.specs.Frame.{syncframe}
-use Rattle.ac3.specs.Promise.{Call, input, room_for, listed, answer_to}
+use Rattle.ac3.specs.Promise.{input, room_for, listed, answer_to}
 use Rattle.ac3.proofs.Promise.{promised}
-use Rattle.rows.specs.Look.{name_column, value_column, named, first_where, first, value_in}
-use Rattle.rows.specs.Found.{index_where, index_of, value_of, First, row_at, Looked, LooksUp}
+use Rattle.rows.specs.Look.{value_column, named, first_where, first, value_in}
+use Rattle.rows.specs.Found.{index_where, index_of, value_of, First, row_at, LooksUp}
 use Rattle.rows.proofs.Look.{hit, miss, value_found, value_none}
 
 -- ---- a row at the front of a run

@@ -1,16 +1,16 @@
 -- A frame asks for no more bytes than it has, so its bytes alone are not too short, and what comes behind them changes nothing. Assumes nothing.
 use mathlib.Core.Bool.{Bool, true, false, not}
-use mathlib.Core.List.{List, [], ◌∷◌, ◌++◌, append-nil}
+use mathlib.Core.List.{List, [], ◌∷◌, ◌++◌}
 use mathlib.Core.Logic.{◌⊎◌, inl, inr}
 use mathlib.Core.Path.{◌≡◌, refl, sym, ap, subst, ◌∙◌}
-use Prim.Native.Nat.{ℕ, zero, suc, ◌+◌, ◌-◌, ◌*◌, ◌/◌, ◌%◌, ◌^◌, ◌≤◌, ◌<◌, max}
+use Prim.Native.Nat.{ℕ, zero, suc, ◌-◌, ◌*◌, ◌/◌, ◌%◌, ◌^◌, ◌≤◌, ◌<◌, max}
 use native.Mathlib.Decide.{dec_le}
 use native.Mathlib.Nat.{le_refl}
 use native.Mathlib.Omega.{arith}
-use borrow.Author.Tests.{eqb-false, ltb-false}
-use lib.Dec.{T, eqb, ltb}
-use lib.ListN.{length, take, drop, get_or, replicate, length-append, length-drop, length-replicate, take-append-drop, get_or-append, get_or-eq_default, get_or-replicate}
-use lib.Seq.{length-take-le, get_or-take, take-length}
+use borrow.Author.Tests.{eqb-false}
+use lib.Dec.{T, eqb}
+use lib.ListN.{length, take, drop, get_or, replicate, length-append, length-replicate, take-append-drop, get_or-append, get_or-eq_default}
+use lib.Seq.{length-take-le, get_or-take}
 use Rattle.bits.specs.Bits.{bit_at, value}
 use Rattle.bits.proofs.Determine.{value_of_bits}
 use Rattle.bits.proofs.Window.{value_lt}
@@ -21,23 +21,22 @@ use Rattle.syntax.specs.Refusals.{not_sync, no_frame_size}
 use Rattle.syntax.specs.Grammar.{Grammar, done, refuse, field, free, span, walk, frame, here, ◌>>=◌, refuse_if}
 use Rattle.syntax.specs.Later.{Past, TooShort, sized, resized}
 use Rattle.syntax.specs.Place.{Place, finish}
-use Rattle.syntax.specs.Run.{Row, Spot, End, reached, Result, Check, clear, stop, unless, run, row_check, walk_check, frame_check, sum, beyond, within, start, parse, end_of}
+use Rattle.syntax.specs.Run.{Spot, End, reached, Result, Check, clear, stop, unless, run, row_check, walk_check, frame_check, sum, beyond, within, start, parse}
 use Rattle.syntax.proofs.Later.{only_what_was_read, appending}
 use Rattle.header.specs.Header.{syncinfo, bsi, header}
 use Rattle.header.specs.declared.Header.{Header}
 use Rattle.ac3.specs.AtMost.{AtMost, a_done, a_refuse, a_field, a_free, a_span, a_walk, a_frame, a_here}
 use Rattle.ac3.specs.Frame.{Audio, audio, syncframe, answered}
 use Rattle.ac3.specs.Later.{longest, append_to}
-use Rattle.ac3.specs.Promise.{Call, input, room_for, listed, bit_of, answer_to, Accepted, Promised}
+use Rattle.ac3.specs.Promise.{Call, input, room_for, bit_of, answer_to, Accepted, Promised}
 use Rattle.ac3.specs.Within.{Within}
-use Rattle.ac3.specs.declared.Answer.{Answer}
 use Rattle.ac3.proofs.AtMost as bounds
 use Rattle.ac3.proofs.Later.{later_bytes}
 use Rattle.ac3.proofs.Promise.{promised, result, landed, answer_is}
 use Rattle.ac3.proofs.Rooms.{same_answer_lem}
 use Rattle.ac3.proofs.RowBound.{a_bsi, a_audio}
 use Rattle.ac3.proofs.Within.{kept_within}
-use Rattle.rows.specs.Framed.{shortest, frame_bytes_of, frame_of, SameFrame, Framed, AcceptedFramed, RowsCount}
+use Rattle.rows.specs.Framed.{shortest, frame_bytes_of, frame_of, SameFrame, AcceptedFramed, RowsCount}
 
 -- ---- every answer that a grammar can reach
 

@@ -1,5 +1,5 @@
 -- Every accepted frame opens with the same fields, each where the last one ends: so says the grammar. Assumes nothing.
-use mathlib.Core.Bool.{Bool, true, false, not, cond}
+use mathlib.Core.Bool.{Bool, true, false, not}
 use mathlib.Core.List.{List, [], ◌∷◌, ◌++◌}
 use mathlib.Core.Path.{◌≡◌, refl, sym, ap, subst, ◌∙◌}
 use Prim.Native.Nat.{ℕ, ◌+◌}
@@ -14,12 +14,12 @@ use Rattle.syntax.specs.declared.Refusal.{Refusal}
 use Rattle.syntax.specs.Refusals.{not_sync, no_frame_size, bad_bsid}
 use Rattle.syntax.specs.Grammar.{Grammar, done, refuse, field, free, span, walk, frame, here, ◌>>=◌, plain, roled, refuse_if}
 use Rattle.syntax.specs.Names as Name
-use Rattle.syntax.specs.Run.{Kind, steering, unsteering, Row, row, Spot, End, reached, refused, Result, Check, clear, stop, ◌after◌, unless, run, row_check, frame_check, beyond, within}
+use Rattle.syntax.specs.Run.{Kind, steering, unsteering, Row, row, Spot, reached, Result, Check, clear, stop, ◌after◌, unless, run, row_check, frame_check, beyond, within}
 use Rattle.header.specs.Header.{syncinfo, bsi, header}
 use Rattle.ac3.specs.Frame.{syncframe, audio}
-use Rattle.ac3.specs.Promise.{Call, input, listed, Accepted}
+use Rattle.ac3.specs.Promise.{input}
 use Rattle.ac3.proofs.Promise.{reaches}
-use Rattle.rows.specs.Found.{First, opening, Opens, Headed, HeadRows}
+use Rattle.rows.specs.Found.{First, Opens, HeadRows}
 
 record Laid : Type 0 where
   pub kind : Kind

@@ -21,23 +21,23 @@ as_it_is : (z : ℤ) → lt_z z (pos 0) ≡ false → nat_abs z ≡ natural z
 as_it_is (pos n) e = refl
 as_it_is (negsuc n) e = absurd (subst T e tt)
 
-cast_result : tie.Need-overflow-cast-result
+cast_result : tie.Need-overflow_cast-result
 cast_result c =
     let s = c.before in
     let z = to_z-of_z w32 s.args.z s.ranges.z in
-    rw z (index_fits s.args.z (rw z at c.if1.false) s.ranges.z)
+    rw z (index_fits s.args.z (rw z at c.if-z-lt0.false) s.ranges.z)
 
-returns : tie.Need-returns
+returns : tie.Need-returns-then-z-lt0
 returns c =
     let s = c.before in
     let z = to_z-of_z w32 s.args.z s.ranges.z in
-    negative s.args.z (rw z at c.if1.true)
+    negative s.args.z (rw z at c.if-z-lt0.true)
 
-returns-2 : tie.Need-returns-2
+returns-2 : tie.Need-returns-else-z-lt0
 returns-2 c =
     let s = c.before in
     let z = to_z-of_z w32 s.args.z s.ranges.z in
-    rw z (as_it_is s.args.z (rw z at c.if1.false))
+    rw z (as_it_is s.args.z (rw z at c.if-z-lt0.false))
 
-pub natural-spec : {M : Type 1} → statement M
-natural-spec = tie.close (tie.spec cast_result returns returns-2)
+pub natural_spec : {M : Type 1} → statement M
+natural_spec = tie.close (tie.spec cast_result returns returns-2)

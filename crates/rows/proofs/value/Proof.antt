@@ -18,25 +18,25 @@ use Rattle.rows.proofs.value.Tie as tie
 inside : (count name : ℕ) (rows : List ℤ) {i : ℕ} → i ≡ first count name rows → i < count → i * row_width + row_width ≤ length rows
 inside count name rows e h = omega (arith, e, whole (named name) count rows (omega (arith, e, h)))
 
-found : tie.Need-returns
+found : tie.Need-returns-then-i-count
 found c =
     let a = c.before.before.before.args in
-    let i = c.before.before.first in
+    let i = c.before.before.first-i in
     let e = i.ensures in
     to_z-of_z {w = w32} {z = get_or a.rows.now (i.result * row_width + value_column) (pos 0)} (search rules)
-    ∙ ap (λ k. get_or a.rows.now (k * row_width + value_column) (pos 0)) e ∙ sym (value_found a.count a.name a.rows.now (omega (arith, e, c.before.if1.true)))
+    ∙ ap (λ k. get_or a.rows.now (k * row_width + value_column) (pos 0)) e ∙ sym (value_found a.count a.name a.rows.now (omega (arith, e, c.before.if-i-count.true)))
 
-none : tie.Need-returns-2
-none c = let a = c.before.before.args in sym (value_none a.count a.name a.rows.now (omega (arith, c.before.first.ensures, c.if1.false)))
+none : tie.Need-returns-else-i-count
+none c = let a = c.before.before.args in sym (value_none a.count a.name a.rows.now (omega (arith, c.before.first-i.ensures, c.if-i-count.false)))
 
 pub value_spec : {M : Type 1} → statement M
 value_spec =
     tie.close
     (tie.spec
     (λ c κs. search rules)  -- first-requires
-    (λ c. omega (arith, inside _ _ _ c.before.first.ensures c.if1.true))  -- mul_result
-    (λ c. omega (arith, inside _ _ _ c.before.first.ensures c.if1.true))  -- add_result
-    (λ c. omega (arith, inside _ _ _ c.before.first.ensures c.if1.true))  -- mul_result_2
-    (λ c. omega (arith, inside _ _ _ c.before.first.ensures c.if1.true))  -- shared-slice-copy-out-result
+    (λ c. omega (arith, inside _ _ _ c.before.first-i.ensures c.if-i-count.true))  -- mul_result
+    (λ c. omega (arith, inside _ _ _ c.before.first-i.ensures c.if-i-count.true))  -- add_result
+    (λ c. omega (arith, inside _ _ _ c.before.first-i.ensures c.if-i-count.true))  -- mul_result_2
+    (λ c. omega (arith, inside _ _ _ c.before.first-i.ensures c.if-i-count.true))  -- shared-slice-copy-out-result
     found
     none)

@@ -28,23 +28,23 @@ module _ (name : ℕ) (l : List ℕ) (i : ℕ) (more : i < length l) (so_far : a
 ended : (name : ℕ) (l : List ℕ) (i : ℕ) → length l ≤ i → among name (drop i l) ≡ false
 ended name l i h = ap (among name) (drop_of_length-le l {i = i} h)
 
-abbrev invariant-loop : tie.invariant-loop
-invariant-loop name names i₀ i = among name (drop i names) ≡ among name names
+abbrev invariant-loop-i : tie.invariant-loop-i
+invariant-loop-i name names i₀ i = among name (drop i names) ≡ among name names
 
-abbrev decreases-loop : tie.decreases-loop
-decreases-loop name names i₀ i = length names - i
+abbrev decreases-loop-i : tie.decreases-loop-i
+decreases-loop-i name names i₀ i = length names - i
 
-pub among-spec : {M : Type 1} → statement M
-among-spec =
+pub among_spec : {M : Type 1} → statement M
+among_spec =
     tie.close
     (tie.spec
-    invariant-loop
-    decreases-loop
+    invariant-loop-i
+    decreases-loop-i
     (λ c. refl)  -- loop_holds
     (λ c. search rules)  -- shared-slice-read-if1
-    (λ c. omega (arith, c.shared-slice-known.given c.before.before.loop.i))  -- cast-if1
-    (λ c. let at = c.before.before.before in found at.before.args.name at.before.args.names.now at.loop.i (omega arith) at.loop.invariant c.if1.true)  -- returns
+    (λ c. omega (arith, c.shared_slice_known-1.given c.before.before.loop-i.i))  -- cast-if1
+    (λ c. let at = c.before.before.before in found at.before.args.name at.before.args.names.now at.loop-i.i (omega arith) at.loop-i.invariant c.if-names-i.true)  -- returns
     (λ c. search rules)  -- add-i
     (λ c. search rules)  -- loop-less
-    (λ c. let at = c.before.before.before in goes_on at.before.args.name at.before.args.names.now at.loop.i (omega arith) at.loop.invariant c.if1.false)  -- loop_again
-    (λ c. let at = c.before in sym (ended at.before.args.name at.before.args.names.now at.loop.i (omega arith)) ∙ at.loop.invariant))  -- returns-2
+    (λ c. let at = c.before.before.before in goes_on at.before.args.name at.before.args.names.now at.loop-i.i (omega arith) at.loop-i.invariant c.if-names-i.false)  -- loop_again
+    (λ c. let at = c.before in sym (ended at.before.args.name at.before.args.names.now at.loop-i.i (omega arith)) ∙ at.loop-i.invariant))  -- returns-2

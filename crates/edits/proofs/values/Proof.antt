@@ -7,8 +7,8 @@ use Rattle.bits.proofs.Window.{power}
 use Rattle.edits.proofs.values.Statement.{statement}
 use Rattle.edits.proofs.values.Tie as tie
 
-pub values-spec : {M : Type 1} → statement M
-values-spec =
+pub values_spec : {M : Type 1} → statement M
+values_spec =
     tie.close
     (tie.spec
     (λ c. search rules)

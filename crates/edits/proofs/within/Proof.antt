@@ -6,8 +6,8 @@ use Rattle.bits.proofs.Range.{leb_same}
 use Rattle.edits.proofs.within.Statement.{statement}
 use Rattle.edits.proofs.within.Tie as tie
 
-pub within-spec : {M : Type 1} → statement M
-within-spec =
+pub within_spec : {M : Type 1} → statement M
+within_spec =
     tie.close
     (tie.spec
     (λ c. search rules)

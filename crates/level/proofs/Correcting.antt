@@ -15,7 +15,6 @@ use Rattle.ac3.specs.declared.Answer as parse
 use Rattle.mend.specs.Mend.{after_mend}
 use Rattle.mend.specs.Changes as mend
 use Rattle.level.specs.Level.{words_of, refusal_for, dialnorm_of, dialnorm_width, position_in, levelled, untouched, left_by, correct_to}
-use Rattle.level.specs.declared.Answer.{Answer}
 use Rattle.level.proofs.Refusing.{fits}
 
 -- all from the place on was lent

@@ -243,9 +243,9 @@ reached_of (a_frame {x = x} {bytes = n} u t k) s p a e = reached_of k s (within 
 reached_of (a_here k) s p a e = reached_of (k p.at) s p a e
 
 first_left : (name : ℕ) (rows more : List Row) (i : ℕ) (r : Row) → First name rows i r → First name (rows ++ more) i r
-first_left name [] more i r f = absurd f
-first_left name (x ∷ xs) more zero r f = f
-first_left name (x ∷ xs) more (suc i) r f = (f.0, first_left name xs more i r f.1)
+first_left n [] more i r f = absurd f
+first_left n (x ∷ xs) more zero r f = f
+first_left n (x ∷ xs) more (suc i) r f = (f.0, first_left n xs more i r f.1)
 
 module _ (p : ℕ) (lt : p < 2) (s : List ℕ) (q : Spot) (a : Audio) where
   abbrev r : Result Header

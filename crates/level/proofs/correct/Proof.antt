@@ -11,52 +11,44 @@ use Rattle.level.proofs.Correcting.{refused, in_capture, corrected}
 use Rattle.level.proofs.correct.Statement.{statement}
 use Rattle.level.proofs.correct.Tie as tie
 
-returns : tie.Need-returns
+returns : tie.Need-returns-then-refusal-ne0
 returns c =
-    let judged = c.before in
-    let parsed = judged.before.before in
-    let a = parsed.before.before.before.before.args in
-    refused a.capture.now a.place a.programme a.level a.rows.now a.changes.now parsed.parse.ensures.0 judged.refusal-for.ensures c.if1.true
+    let a = c.args in
+    refused a.capture.now a.place a.programme a.level a.rows.now a.changes.now c.parse-parsed.ensures.0 c.refusal_for-refusal.ensures c.if-refusal-ne0.true
 
 -- where nothing was refused
-free : (fine : tie.Else1) → let parsed = fine.before.before.before in let a = parsed.before.before.before.before.args in refusal_for parsed.parse.result a.programme a.level ≡ 0
-free fine = sym fine.before.refusal-for.ensures ∙ fine.if1.false
+free : (fine : tie.Else-refusal-ne0) → refusal_for fine.parse-parsed.result fine.args.programme fine.args.level ≡ 0
+free fine = sym fine.refusal_for-refusal.ensures ∙ fine.if-refusal-ne0.false
 
-known : (fine : tie.Else1) → let parsed = fine.before.before.before in let a = parsed.before.before.before.before.args in Fits parsed.parse.result a.programme a.level
-known fine = let parsed = fine.before.before.before in let a = parsed.before.before.before.before.args in fits parsed.parse.result a.programme a.level (free fine)
+known : (fine : tie.Else-refusal-ne0) → Fits fine.parse-parsed.result fine.args.programme fine.args.level
+known fine = fits fine.parse-parsed.result fine.args.programme fine.args.level (free fine)
 
-placed_inside : (fine : tie.Else1) → let a = fine.before.before.before.before.before.before.before.args in a.place ≤ length a.capture.now
+placed_inside : (fine : tie.Else-refusal-ne0) → fine.args.place ≤ length fine.args.capture.now
 placed_inside fine =
-    let parsed = fine.before.before.before in
-    let a = parsed.before.before.before.before.args in
-    in_capture a.capture.now a.place a.programme a.level a.rows.now a.changes.now parsed.parse.ensures.0 (free fine) parsed.parse.ensures.1.1
+    let a = fine.args in
+    in_capture a.capture.now a.place a.programme a.level a.rows.now a.changes.now fine.parse-parsed.ensures.0 (free fine) fine.parse-parsed.ensures.1.1
 
-dialnorm-of-requires : tie.Need-dialnorm-of-requires
-dialnorm-of-requires c κs = let f = known c.before.before in (f.counted, f.few)
+dialnorm_of_name_requires : tie.Need-dialnorm_of-name-requires
+dialnorm_of_name_requires c κs = let f = known c in (f.counted, f.few)
 
-sub_mend : tie.Need-overflow-sub-mend
-sub_mend c = placed_inside c.before.before.before.before.before
+sub_mend : tie.Need-slice_bounds-mend-count
+sub_mend c = placed_inside c.before.before
 
-part_mend_start : tie.Need-slice-bounds-mend-start
-part_mend_start c = placed_inside c.before.before.before.before.before
+part_mend_start : tie.Need-slice_bounds-mend-start
+part_mend_start c = placed_inside c.before.before
 
-cast_mend : tie.Need-overflow-cast-mend
-cast_mend c = omega (arith, (known c.before.before.before.before.before.before).most)
+cast_mend : tie.Need-overflow_cast-level
+cast_mend c = omega (arith, (known c.before.before.before).most)
 
-returns-2 : tie.Need-returns-2
+returns-2 : tie.Need-returns
 returns-2 c =
-    let mended = c.before.before in
-    let placed = mended.before.before.before in
-    let named = placed.before.before in
-    let fine = named.before.before.before in
-    let judged = fine.before in
-    let parsed = judged.before.before in
-    let a = parsed.before.before.before.before.args in
-    corrected a.capture.now a.place a.programme a.level a.rows.now a.changes.now parsed.parse.ensures.0
-    (free fine) named.dialnorm-of.ensures placed.position.ensures mended.mend.ensures.0 mended.mend.ensures.1.0 mended.mend.ensures.1.1
+    let a = c.args in
+    corrected a.capture.now a.place a.programme a.level a.rows.now a.changes.now c.parse-parsed.ensures.0
+    (sym c.refusal_for-refusal.ensures ∙ c.if-refusal-ne0.false) c.dialnorm_of-name.ensures c.position-at.ensures
+    c.mend-listed.ensures.0 c.mend-listed.ensures.1.0 c.mend-listed.ensures.1.1
 
-pub correct-spec : {M : Type 1} → statement M
-correct-spec =
+pub correct_spec : {M : Type 1} → statement M
+correct_spec =
     tie.close
     (tie.spec
     (λ c κs. search rules)  -- parse-requires
@@ -64,7 +56,7 @@ correct-spec =
     (λ c. search rules)  -- same-length
     (λ c. search rules)  -- same-length-2
     returns
-    dialnorm-of-requires
+    dialnorm_of_name_requires
     (λ c κs. search rules)  -- position-requires
     sub_mend
     part_mend_start

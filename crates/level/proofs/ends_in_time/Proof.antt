@@ -4,8 +4,8 @@ use borrow.Author.Rules.{rules}
 use Rattle.level.proofs.ends_in_time.Statement.{statement}
 use Rattle.level.proofs.ends_in_time.Tie as tie
 
-pub ends-in-time-spec : {M : Type 1} → statement M
-ends-in-time-spec =
+pub ends_in_time_spec : {M : Type 1} → statement M
+ends_in_time_spec =
     tie.close
     (tie.spec
     (λ c. search rules)  -- cast_result

@@ -4,8 +4,8 @@ use borrow.Author.Rules.{rules}
 use Rattle.level.proofs.from_zero.Statement.{statement}
 use Rattle.level.proofs.from_zero.Tie as tie
 
-pub from-zero-spec : {M : Type 1} → statement M
-from-zero-spec =
+pub from_zero_spec : {M : Type 1} → statement M
+from_zero_spec =
     tie.close
     (tie.spec
     (λ c. search rules)  -- sub_result

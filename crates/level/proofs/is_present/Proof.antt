@@ -8,17 +8,17 @@ use Rattle.header.specs.Header.{programmes}
 use Rattle.level.proofs.is_present.Statement.{statement}
 use Rattle.level.proofs.is_present.Tie as tie
 
-returns : tie.Need-returns
-returns c = let programme = c.before.args.programme in rw (lt-leb 1 programme (omega (arith, c.if1.true)))
+returns : tie.Need-returns-then-programme-eq0
+returns c = let programme = c.before.args.programme in rw (lt-leb 1 programme (omega (arith, c.if-programme-eq0.true)))
 
-returns-2 : tie.Need-returns-2
+returns-2 : tie.Need-returns
 returns-2 c =
     let a = c.before.before.before.args in
     let two : c.programmes.result ≡ programmes a.acmod = c.programmes.ensures.0 in
-    rw (le-leb 1 a.programme (omega (arith, c.before.before.if1.false))) (ap₂ ltb c.before.from_zero.ensures two)
+    rw (le-leb 1 a.programme (omega (arith, c.before.before.if-programme-eq0.false))) (ap₂ ltb c.before.from_zero.ensures two)
 
-pub is-present-spec : {M : Type 1} → statement M
-is-present-spec =
+pub is_present_spec : {M : Type 1} → statement M
+is_present_spec =
     tie.close
     (tie.spec
     returns

@@ -29,26 +29,26 @@ module _ (count name : ℕ) (rows : List ℤ) {i : ℕ} (e : i ≡ first count n
   unfolding position_in
   none h = rw (le-ltb (first count name rows) count (omega (arith, e, h)))
 
-returns : tie.Need-returns
+returns : tie.Need-returns-then-i-count
 returns c =
     let there = c.before.before in
-    let i = there.before.first in
+    let i = there.before.first-i in
     let a = there.before.before.args in
     let number = get_or a.rows.now (i.result * row_width + position_column) (pos 0) in
-    c.natural.ensures ∙ ap natural (to_z-of_z {w = w32} {z = number} (search rules)) ∙ found a.count a.name a.rows.now i.ensures there.if1.true
+    c.natural.ensures ∙ ap natural (to_z-of_z {w = w32} {z = number} (search rules)) ∙ found a.count a.name a.rows.now i.ensures there.if-i-count.true
 
-returns-2 : tie.Need-returns-2
-returns-2 c = let a = c.before.before.args in none a.count a.name a.rows.now c.before.first.ensures (omega (arith, c.if1.false))
+returns-2 : tie.Need-returns-else-i-count
+returns-2 c = let a = c.before.before.args in none a.count a.name a.rows.now c.before.first-i.ensures (omega (arith, c.if-i-count.false))
 
-pub position-spec : {M : Type 1} → statement M
-position-spec =
+pub position_spec : {M : Type 1} → statement M
+position_spec =
     tie.close
     (tie.spec
     (λ c κs. search rules)  -- first-requires
-    (λ c. omega (arith, inside _ _ _ c.before.first.ensures c.if1.true))  -- mul-natural
-    (λ c. omega (arith, inside _ _ _ c.before.first.ensures c.if1.true))  -- add-natural
-    (λ c. omega (arith, inside _ _ _ c.before.first.ensures c.if1.true))  -- mul-natural-2
-    (λ c. omega (arith, inside _ _ _ c.before.first.ensures c.if1.true))  -- shared-slice-copy-out-natural
+    (λ c. omega (arith, inside _ _ _ c.before.first-i.ensures c.if-i-count.true))  -- mul-natural
+    (λ c. omega (arith, inside _ _ _ c.before.first-i.ensures c.if-i-count.true))  -- add-natural
+    (λ c. omega (arith, inside _ _ _ c.before.first-i.ensures c.if-i-count.true))  -- mul-natural-2
+    (λ c. omega (arith, inside _ _ _ c.before.first-i.ensures c.if-i-count.true))  -- shared-slice-copy-out-natural
     (λ c κs. search rules)  -- natural-requires
     returns
     returns-2)

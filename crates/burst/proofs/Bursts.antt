@@ -3,7 +3,7 @@
 use mathlib.Core.Bool.{Bool, true, false, not, ◌&&◌, cond}
 use mathlib.Core.List.{List, [], ◌∷◌, ◌++◌, append-nil}
 use mathlib.Core.Path.{◌≡◌, refl, sym, ap, subst, ◌∙◌}
-use Prim.Native.Nat.{ℕ, zero, suc, ◌+◌, ◌-◌, ◌*◌, ◌/◌, ◌%◌, ◌≤◌, ◌<◌}
+use Prim.Native.Nat.{ℕ, ◌+◌, ◌-◌, ◌*◌, ◌/◌, ◌%◌, ◌≤◌, ◌<◌}
 use native.Mathlib.Omega.{arith}
 use borrow.Author.Tests.{eqb-true, eqb-false, ltb-false, eq-eqb, le-ltb}
 use lib.Dec.{eqb, ltb}
@@ -13,8 +13,7 @@ use lib.Seq.{take-append_seam, take-length, length-take-le, drop-drop}
 use Rattle.bits.specs.Bits.{value}
 use Rattle.bits.proofs.Range.{and_first}
 use Rattle.syntax.specs.Names as Name
-use Rattle.ac3.specs.Later.{longest}
-use Rattle.ac3.specs.Promise.{Call, input, room_for, answer_to, Accepted}
+use Rattle.ac3.specs.Promise.{Call, input, answer_to, Accepted}
 use Rattle.ac3.specs.declared.Answer as parse
 use Rattle.rows.specs.Found.{value_of}
 use Rattle.burst.specs.Answers.{refuses, gives, not_aBurst, wrong_words, of_frame, wrong_length, not_zero, other_mode, no_room, frame_in, writing, reading, told, bsmod_of, written, read}
@@ -25,7 +24,7 @@ use Rattle.burst.specs.declared.Answer.{Answer}
 use Rattle.rows.proofs.Framed.{accepted_framed}
 use Rattle.rows.proofs.Spelt.{spelt}
 use Rattle.burst.proofs.Judged.{bsmod_lt, w_done, r_done}
-use Rattle.burst.proofs.Words.{third, fourth, mode_there, opened, frame_there, zeros_there}
+use Rattle.burst.proofs.Words.{fourth, mode_there, opened, frame_there, zeros_there}
 use Rattle.burst.proofs.Written.{burst_long}
 
 -- ---- what is not refused passed every check

@@ -1,14 +1,14 @@
 -- Check by check: what is told at each of them, of the answer to the parse; and bsmod as it stands in the rows is the definition's, which has
 -- three bits. Assumes nothing.
-use mathlib.Core.Bool.{Bool, true, false, not, cond}
-use mathlib.Core.List.{List, [], ◌∷◌, ◌++◌}
-use mathlib.Core.Path.{◌≡◌, refl, sym, ap, subst, ◌∙◌}
-use Prim.Native.Nat.{ℕ, ◌+◌, ◌-◌, ◌*◌, ◌≤◌, ◌<◌, min}
+use mathlib.Core.Bool.{true, false}
+use mathlib.Core.List.{List, ◌++◌}
+use mathlib.Core.Path.{◌≡◌, sym, ap, ◌∙◌}
+use Prim.Native.Nat.{ℕ, ◌+◌, ◌*◌, ◌≤◌, ◌<◌, min}
 use native.Mathlib.Omega.{arith}
 use borrow.Author.Tests.{eq-eqb, ne_eqb, lt-ltb, le-ltb}
 use lib.Dec.{eqb, ltb}
-use lib.IntN.{ℤ, pos}
-use lib.ListN.{length, take, drop, length-drop}
+use lib.IntN.{ℤ}
+use lib.ListN.{length, drop, length-drop}
 use lib.Seq.{sets, length-take-le}
 use Rattle.bits.specs.Bits.{value}
 use Rattle.bits.proofs.Window.{value_lt}
@@ -22,8 +22,7 @@ use Rattle.rows.specs.Look.{value_in}
 use Rattle.rows.proofs.Found.{looks_up}
 use Rattle.rows.proofs.Opening.{head_rows}
 use Rattle.burst.specs.Burst.{burst_bytes, head_bytes, burst_of, word_at, mode_bits, opens, all_zero}
-use Rattle.burst.specs.Answers.{number, frame_in, writing, reading, told, bsmod_of, written, read}
-use Rattle.rows.specs.Framed.{Framed}
+use Rattle.burst.specs.Answers.{frame_in, writing, reading, told, bsmod_of, written, read}
 use Rattle.burst.specs.declared.Answer.{Answer}
 use Rattle.rows.proofs.Framed.{accepted_framed}
 use Rattle.burst.proofs.Written.{burst_long}

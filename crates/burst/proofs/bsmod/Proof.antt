@@ -1,6 +1,6 @@
 -- `burst::bsmod` meets its contract: a number held to 7 is below 8. Assumes nothing.
-use mathlib.Core.Path.{◌≡◌, refl, sym, ap, ◌∙◌}
-use Prim.Native.Nat.{ℕ, ◌≤◌, min}
+use mathlib.Core.Path.{ap, ◌∙◌}
+use Prim.Native.Nat.{ℕ, ◌≤◌}
 use native.Mathlib.Omega.{arith}
 use borrow.Author.Rules.{rules}
 use lib.IntN.{ℤ, pos, negsuc}
@@ -15,13 +15,13 @@ held : (z : ℤ) (top : ℕ) → clamp_z z top ≤ top
 held (pos n) top = omega arith
 held (negsuc n) top = omega arith
 
-pub bsmod-spec : {M : Type 1} → statement M
-bsmod-spec =
+pub bsmod_spec : {M : Type 1} → statement M
+bsmod_spec =
     tie.close
     (tie.spec
     (λ c κs. search rules)  -- value-requires
     (λ c κs. search rules)  -- clamp-requires
-    (λ c. omega (arith, c.clamp.ensures, held (to_z w32 (of_z w32 c.before.value.result)) 7))  -- cast_result
+    (λ c. omega (arith, c.clamp.ensures, held (to_z w32 (of_z w32 c.before.value.result)) 7))  -- overflow_cast-result
     (λ c.
     let read = c.before.value in (
       c.clamp.ensures ∙ ap (λ z. clamp_z z 7) (to_z-of_z {w = w32} {z = read.result} (search rules) ∙ read.ensures),

@@ -1,5 +1,5 @@
 -- `burst::burst_write` meets its contract: its checks are the definition's, in the same order. Assumes nothing.
-use mathlib.Core.Path.{◌≡◌, refl, sym, ap, ◌∙◌}
+use mathlib.Core.Path.{◌≡◌, ap}
 use Prim.Native.Nat.{ℕ, ◌+◌, ◌-◌}
 use mathlib.Core.List.{List}
 use native.Mathlib.Omega.{arith}
@@ -13,74 +13,52 @@ use Rattle.burst.proofs.burst_write.Tie as tie
 part : (s : List ℕ) (place bytes : ℕ) → take (place + bytes - place) (drop place s) ≡ take bytes (drop place s)
 part s place bytes = let same : place + bytes - place ≡ bytes = omega arith in ap (λ n. take n (drop place s)) same
 
-refused_frame : tie.Need-returns
+refused_frame : tie.Need-returns-then-parsed-ne0
 refused_frame c =
-    let parsed = c.before.before.before.before in
-    let a = parsed.before.before.before.before.args in
-    frame_refused a.capture.now a.place a.rows.now a.out.now parsed.parse.ensures.0 c.before.if1.true c.refused.ensures
+    frame_refused c.args.capture.now c.args.place c.args.rows.now c.args.out.now c.parse-parsed.ensures.0 c.if-parsed-ne0.true c.refused.ensures
 
-short : tie.Need-returns-2
+short : tie.Need-returns-then-out-lt-BURST
 short c =
-    let else1 = c.before.before in
-    let parsed = else1.before.before.before in
-    let a = parsed.before.before.before.before.args in
-    too_short a.capture.now a.place a.rows.now a.out.now parsed.parse.ensures.0 else1.if1.false c.before.if2.true c.refused2.ensures
+    too_short c.args.capture.now c.args.place c.args.rows.now c.args.out.now c.parse-parsed.ensures.0 c.if-parsed-ne0.false c.if-out-lt-BURST.true c.refused-then-out-lt-BURST.ensures
 
-add_end : tie.Need-overflow-add-end
+add_end : tie.Need-overflow_add-end
 add_end c =
-    let else1 = c.before.before.before.before in
-    let parsed = else1.before.before.before in
-    let a = parsed.before.before.before.before.args in
-    omega (arith, ends a.capture.now a.place a.rows.now a.out.now parsed.parse.ensures.0 else1.if1.false)
+    omega (arith, ends c.args.capture.now c.args.place c.args.rows.now c.args.out.now c.parse-parsed.ensures.0 c.if-parsed-ne0.false)
 
-part_put_end : tie.Need-slice-bounds-put-end
+part_put_end : tie.Need-slice_bounds-put-end
 part_put_end c =
-    let else1 = c.before.before.before.before in
-    let parsed = else1.before.before.before in
-    let a = parsed.before.before.before.before.args in
-    omega (arith, ends a.capture.now a.place a.rows.now a.out.now parsed.parse.ensures.0 else1.if1.false)
+    omega (arith, ends c.args.capture.now c.args.place c.args.rows.now c.args.out.now c.parse-parsed.ensures.0 c.if-parsed-ne0.false)
 
-put-requires : tie.Need-put-requires
-put-requires c κs =
-    let bsmod = c.before in
-    let else2 = bsmod.before.before.before.before.before.before in
-    let else1 = else2.before in
-    let parsed = else1.before.before.before in
-    let a = parsed.before.before.before.before.args in
-    let fit = fits a.capture.now a.place a.rows.now a.out.now parsed.parse.ensures.0 else1.if1.false in
-    let same = part a.capture.now a.place parsed.parse.result.summary.header.bytes in
-    (omega (arith, fit, ap length same), else2.if2.false, bsmod.bsmod.ensures.1)
+put_requires : tie.Need-put-requires
+put_requires c κs =
+    let fit = fits c.args.capture.now c.args.place c.args.rows.now c.args.out.now c.parse-parsed.ensures.0 c.if-parsed-ne0.false in
+    let same = part c.args.capture.now c.args.place c.parse-parsed.result.summary.header.bytes in
+    (omega (arith, fit, ap length same), c.if-out-lt-BURST.false, c.bsmod.ensures.1)
 
-done : tie.Need-returns-3
+done : tie.Need-returns
 done c =
-    let put = c.before.before in
-    let bsmod = put.before.before in
-    let else2 = bsmod.before.before.before.before.before.before in
-    let else1 = else2.before in
-    let parsed = else1.before.before.before in
-    let a = parsed.before.before.before.before.args in
-    put_burst a.capture.now a.place a.rows.now a.out.now parsed.parse.ensures.0 else1.if1.false _ else2.if2.false bsmod.bsmod.ensures.0
-    (part a.capture.now a.place parsed.parse.result.summary.header.bytes) put.put.ensures
+    put_burst c.args.capture.now c.args.place c.args.rows.now c.args.out.now c.parse-parsed.ensures.0 c.if-parsed-ne0.false _ c.if-out-lt-BURST.false c.bsmod.ensures.0
+    (part c.args.capture.now c.args.place c.parse-parsed.result.summary.header.bytes) c.put.ensures
 
-pub burst-write-spec : {M : Type 1} → statement M
-burst-write-spec =
+pub burst_write_spec : {M : Type 1} → statement M
+burst_write_spec =
     tie.close
     (tie.spec
-    (λ c κs. search rules)  -- parse-requires
+    (λ c κs. search rules)  -- parse-parsed-requires
     (λ c κs. search rules)  -- refused-requires
-    (λ c. search rules)  -- same-length
+    (λ c. search rules)  -- shape_of-rows-then-parsed-ne0
     refused_frame
-    (λ c κs. search rules)  -- refused-requires-2
-    (λ c. search rules)  -- same-length-2
+    (λ c κs. search rules)  -- refused-requires-then-out-lt-BURST
+    (λ c. search rules)  -- shape_of-rows-then-out-lt-BURST
     short
-    (λ c. search rules)  -- cast-end
+    (λ c. search rules)  -- overflow_cast-end
     add_end
-    (λ c. search rules)  -- sub_put
-    (λ c. search rules)  -- part-put-start
+    (λ c. search rules)  -- slice_bounds-put-count
+    (λ c. search rules)  -- slice_bounds-put-start
     part_put_end
     (λ c κs. search rules)  -- bsmod-requires
-    put-requires
-    (λ c. search rules)  -- cast-bytes
-    (λ c. search rules)  -- same-length-3
-    (λ c. search rules)  -- same-length-4
+    put_requires
+    (λ c. search rules)  -- overflow_cast-result
+    (λ c. search rules)  -- shape_of-rows
+    (λ c. search rules)  -- shape_of-out
     done)

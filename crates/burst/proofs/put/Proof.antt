@@ -1,6 +1,5 @@
 -- `burst::put` meets its contract: each write goes behind the one before. Assumes nothing.
 use mathlib.Core.Path.{refl}
-use native.Mathlib.Omega.{arith}
 use borrow.Author.Rules.{rules}
 use Rattle.burst.proofs.Written.{put_one_by_one}
 use Rattle.burst.proofs.put.Statement.{statement}
@@ -12,18 +11,18 @@ put_spec =
     (tie.spec
     (λ c κs. search rules)  -- word-requires
     (λ c κs. search rules)  -- word-requires-2
-    (λ c. search rules)  -- mul-word
-    (λ c. search rules)  -- add-word
+    (λ c. search rules)  -- overflow_mul-bsmod
+    (λ c. search rules)  -- overflow_add-bsmod
     (λ c κs. search rules)  -- word-requires-3
-    (λ c. search rules)  -- cast-word
-    (λ c. search rules)  -- mul-word-2
+    (λ c. search rules)  -- overflow_cast-bytes
+    (λ c. search rules)  -- overflow_mul-bytes
     (λ c κs. search rules)  -- word-requires-4
     (λ c κs. search rules)  -- copy-requires
-    (λ c. search rules)  -- add-fill
-    (λ c. search rules)  -- sub-fill
-    (λ c. search rules)  -- sub-fill-2
+    (λ c. search rules)  -- overflow_add-bytes
+    (λ c. search rules)  -- overflow_sub-fill
+    (λ c. search rules)  -- overflow_sub-bytes
     (λ c κs. search rules)  -- fill-requires
-    (λ c. search rules)  -- same-length
+    (λ c. search rules)  -- shape_of-out
     (λ c.
     let fill = c.before.before in
     let copy = fill.before.before.before.before in
@@ -33,4 +32,4 @@ put_spec =
     let first = second.before.before.before.before in
     let start = first.before.before.before.before in
     put_one_by_one start.args.bsmod start.args.frame.now start.requires.0 start.args.out.now start.requires.1 refl
-    first.word.ensures second.word2.ensures third.word3.ensures fourth.word4.ensures copy.copy.ensures fill.fill.ensures))  -- returns
+    first.word.ensures second.word-2.ensures third.word-3.ensures fourth.word-4.ensures copy.copy.ensures fill.fill.ensures))  -- returns

@@ -1,8 +1,8 @@
 -- `burst::zeros` meets its contract: what was passed is 0, so what is left decides. Assumes nothing.
 use mathlib.Core.Bool.{true, false, ◌&&◌}
-use mathlib.Core.List.{List, [], ◌∷◌}
-use mathlib.Core.Path.{◌≡◌, refl, sym, ap, ◌∙◌}
-use Prim.Native.Nat.{ℕ, suc, ◌+◌, ◌-◌, ◌≤◌, ◌<◌}
+use mathlib.Core.List.{List}
+use mathlib.Core.Path.{◌≡◌, refl, sym, ◌∙◌}
+use Prim.Native.Nat.{ℕ, ◌+◌, ◌-◌, ◌≤◌, ◌<◌}
 use native.Mathlib.Numerals.{add-one}
 use native.Mathlib.Omega.{arith}
 use borrow.Author.Rules.{rules}
@@ -30,22 +30,22 @@ module _ (s : List ℕ) (i from : ℕ) (more : i < length s) (so_far : all_zero 
   goes_on : get_or s i 0 ≡ 0 → all_zero (drop (i + 1) s) ≡ all_zero (drop from s)
   goes_on zero-there = sym (next s i more ∙ rw (eq-eqb (get_or s i 0) 0 zero-there)) ∙ so_far
 
-abbrev invariant-loop : tie.invariant-loop
-invariant-loop s from i₀ i = all_zero (drop i s) ≡ all_zero (drop from s)
+abbrev invariant-loop-i : tie.invariant-loop-i
+invariant-loop-i s from i₀ i = all_zero (drop i s) ≡ all_zero (drop from s)
 
-abbrev decreases-loop : tie.decreases-loop
-decreases-loop s from i₀ i = length s - i
+abbrev decreases-loop-i : tie.decreases-loop-i
+decreases-loop-i s from i₀ i = length s - i
 
-pub zeros-spec : {M : Type 1} → statement M
-zeros-spec =
+pub zeros_spec : {M : Type 1} → statement M
+zeros_spec =
     tie.close
     (tie.spec
-    invariant-loop
-    decreases-loop
-    (λ c. refl)  -- loop_holds
-    (λ c. search rules)  -- shared-slice-read-if1
-    (λ c. let at = c.before.before.before in stops at.before.args.s.now at.loop.i at.before.args.from (omega arith) at.loop.invariant c.if1.true)  -- returns
-    (λ c. search rules)  -- add-i
-    (λ c. search rules)  -- loop-less
-    (λ c. let at = c.before.before.before in goes_on at.before.args.s.now at.loop.i at.before.args.from (omega arith) at.loop.invariant c.if1.false)  -- loop_again
-    (λ c. let at = c.before in sym (ended at.before.args.s.now at.loop.i (omega arith)) ∙ at.loop.invariant))  -- returns-2
+    invariant-loop-i
+    decreases-loop-i
+    (λ c. refl)  -- loop-i-init
+    (λ c. search rules)  -- bounds-s-i
+    (λ c. let at = c.before.before.before in stops at.before.args.s.now at.loop-i.i at.before.args.from (omega arith) at.loop-i.invariant c.if-s-i-ne0.true)  -- returns-then-s-i-ne0
+    (λ c. search rules)  -- overflow_add-i
+    (λ c. search rules)  -- loop-i-smaller
+    (λ c. let at = c.before.before.before in goes_on at.before.args.s.now at.loop-i.i at.before.args.from (omega arith) at.loop-i.invariant c.if-s-i-ne0.false)  -- loop-i-preserved
+    (λ c. let at = c.before in sym (ended at.before.args.s.now at.loop-i.i (omega arith)) ∙ at.loop-i.invariant))  -- returns

@@ -8,20 +8,20 @@ use Rattle.salvage.proofs.Unsynced.{synced, not_synced}
 use Rattle.salvage.proofs.is_sync.Statement.{statement}
 use Rattle.salvage.proofs.is_sync.Tie as tie
 
-both : tie.Need-returns
+both : tie.Need-returns-then-capture-place-eq11
 both c =
     let a = c.before.before.before.args in
-    let byte = c.shared-slice-known2.given in
-    sym (synced a.capture.now a.place (omega (arith, byte a.place)) (omega (arith, byte (a.place + 1))) c.before.if1.true)
+    let byte = c.shared_slice_known-then-capture-place-eq11-1.given in
+    sym (synced a.capture.now a.place (omega (arith, byte a.place)) (omega (arith, byte (a.place + 1))) c.before.if-capture-place-eq11.true)
 
-first : tie.Need-returns-2
+first : tie.Need-returns-else-capture-place-eq11
 first c =
     let a = c.before.before.args in
-    let byte = c.before.shared-slice-known.given in
-    ne_eqb _ _ c.if1.false ∙ sym (not_synced a.capture.now a.place (omega (arith, byte a.place)) (omega (arith, byte (a.place + 1))) c.if1.false)
+    let byte = c.before.shared_slice_known-1.given in
+    ne_eqb _ _ c.if-capture-place-eq11.false ∙ sym (not_synced a.capture.now a.place (omega (arith, byte a.place)) (omega (arith, byte (a.place + 1))) c.if-capture-place-eq11.false)
 
-pub is-sync-spec : {M : Type 1} → statement M
-is-sync-spec =
+pub is_sync_spec : {M : Type 1} → statement M
+is_sync_spec =
     tie.close
     (tie.spec
     (λ c. search rules)  -- shared-slice-read-if1

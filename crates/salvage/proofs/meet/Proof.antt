@@ -8,18 +8,18 @@ use Rattle.salvage.proofs.Steps.{met_stopped, met_without_rows, met_kept}
 use Rattle.salvage.proofs.meet.Statement.{statement}
 use Rattle.salvage.proofs.meet.Tie as tie
 
-pub meet-spec : {M : Type 1} → statement M
-meet-spec =
+pub meet_spec : {M : Type 1} → statement M
+meet_spec =
     tie.close
     (tie.spec
     (λ c κs. search rules)  -- close-gap-requires
     (λ c. search rules)  -- same-length
-    (λ c. met_stopped _ _ _ _ (c.before.before.before.before.close-gap.ensures.1 _) c.if1.true)  -- returns
+    (λ c. met_stopped _ _ _ _ (c.before.before.before.before.close_gap-closed.ensures.1 _) c.if-closed-ne0.true)  -- returns
     (λ c κs. search rules)  -- refused-requires
     (λ c. search rules)  -- same-length-2
     (λ c.
     let closed = c.before.before.before.before.before.before.before in
-    rw c.refused.ensures (met_without_rows _ _ _ _ (closed.close-gap.ensures.1 _) (omega arith) c.before.if2.true))  -- returns-2
+    rw c.refused.ensures (met_without_rows _ _ _ _ (closed.close_gap-closed.ensures.1 _) (omega arith) c.before.if-parsed-eq-NO_ROW.true))  -- returns-2
     (λ c. search rules)  -- cast-after
     (λ c. search rules)  -- add-after
     (λ c. search rules)  -- sub-keep-frame
@@ -35,6 +35,6 @@ meet-spec =
     let a = closed.before.before.before.before.before.args in
     let size = a.parsed.summary.header.bytes in
     let whole : a.place + size - a.place ≡ size = omega arith in
-    met_kept _ _ _ _ (closed.close-gap.ensures.1 _) going.before.before.if1.false going.if2.false
+    met_kept _ _ _ _ (closed.close_gap-closed.ensures.1 _) going.before.before.if-closed-ne0.false going.if-parsed-eq-NO_ROW.false
     (ap (λ n. take n (drop a.place a.capture.now)) whole)
-    kept.keep-frame.ensures))  -- returns-3
+    kept.keep_frame.ensures))  -- returns-3

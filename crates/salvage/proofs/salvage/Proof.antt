@@ -4,91 +4,64 @@ use mathlib.Core.Path.{sym, ◌∙◌}
 use Prim.Native.Nat.{◌-◌}
 use native.Mathlib.Omega.{arith}
 use borrow.Author.Rules.{rules}
-use borrow.Author.Tests.{not-true, not-false}
 use lib.ListN.{length}
 use Rattle.salvage.proofs.Lent.{bytes_of}
 use Rattle.salvage.proofs.Loop.{Going, begins, passes, within, moves_on, goes_on, refuses, ends}
 use Rattle.salvage.proofs.salvage.Statement.{statement}
 use Rattle.salvage.proofs.salvage.Tie as tie
 
-abbrev invariant-loop : tie.invariant-loop
-invariant-loop capture rows₀ list₀ out₀ done₀ from₀ place₀ rows list out done from place = Going capture rows₀ list₀ out₀ rows list out done from place
+abbrev invariant-loop-place : tie.invariant-loop-place
+invariant-loop-place capture rows₀ list₀ out₀ done₀ from₀ place₀ rows list out done from place = Going capture rows₀ list₀ out₀ rows list out done from place
 
-abbrev decreases-loop : tie.decreases-loop
-decreases-loop capture rows₀ list₀ out₀ done₀ from₀ place₀ rows list out done from place = length capture - place
+abbrev decreases-loop-place : tie.decreases-loop-place
+decreases-loop-place capture rows₀ list₀ out₀ done₀ from₀ place₀ rows list out done from place = length capture - place
 
-again : tie.Need-loop-preserved invariant-loop decreases-loop
+again : tie.Need-loop-place-preserved-then-not-is_met invariant-loop-place decreases-loop-place
 again c =
-    let judged = c.before in
-    let read = judged.before.before in
-    let test = read.before.before.before in
-    passes _ _ _ _ test.before.loop.invariant test.loop-test.true read.before.parse.ensures.0 read.rows.given
-    (sym judged.before.is-met.ensures ∙ not-true _ judged.if1.true) c.next_place.ensures.passed
+    passes _ _ _ _ c.loop-place.invariant c.loop-place-test.true c.parse-parsed.ensures.0 c.parse-parsed.auto.rows
+    (sym c.is_met.ensures ∙ c.if-not-is_met.true) c.next_place-place.ensures.passed
 
-inside : tie.Need-meet-requires invariant-loop decreases-loop
+inside : tie.Need-meet-done-requires invariant-loop-place decreases-loop-place
 inside c κs =
-    let read = c.before.before.before.before in
-    let test = read.before.before.before in
-    let inv = test.before.loop.invariant in
-    (within _ _ _ _ inv test.loop-test.true read.before.parse.ensures.0 read.rows.given, omega (arith, bytes_of inv.holds, inv.out_long, inv.holds.written))
+    let inv = c.loop-place.invariant in
+    (within _ _ _ _ inv c.loop-place-test.true c.parse-parsed.ensures.0 c.parse-parsed.auto.rows, omega (arith, bytes_of inv.holds, inv.out_long, inv.holds.written))
 
-refused : tie.Need-returns invariant-loop decreases-loop
+refused : tie.Need-returns-then-done-ne0 invariant-loop-place decreases-loop-place
 refused c =
-    let met = c.before.before.before.before.before.before in
-    let judged = met.before.before.before in
-    let read = judged.before.before in
-    let test = read.before.before.before in
-    refuses _ _ _ _ test.before.loop.invariant test.loop-test.true read.before.parse.ensures.0 read.rows.given
-    (sym judged.before.is-met.ensures ∙ not-false _ judged.if1.false) met.meet.ensures c.if2.true
+    refuses _ _ _ _ c.loop-place.invariant c.loop-place-test.true c.parse-parsed.ensures.0 c.parse-parsed.auto.rows
+    (sym c.is_met.ensures ∙ c.if-not-is_met.false) c.meet-done.ensures c.if-done-ne0.true
 
-fits : tie.Need-overflow-add-place invariant-loop decreases-loop
-fits c =
-    let read = c.before.before.before.before.before.before.before.before.before.before.before.before.before.before in
-    let test = read.before.before.before in
-    let start = test.before.before.before.before.before in
-    omega (arith, within _ _ _ _ test.before.loop.invariant test.loop-test.true read.before.parse.ensures.0 read.rows.given, start.well-formed.0.0)
+fits : tie.Need-overflow_add-place-in-loop-place invariant-loop-place decreases-loop-place
+fits c = omega (arith, within _ _ _ _ c.loop-place.invariant c.loop-place-test.true c.parse-parsed.ensures.0 c.parse-parsed.auto.rows, c.well_formed.0.0)
 
-more : tie.Need-loop-smaller-2 invariant-loop decreases-loop
+more : tie.Need-loop-place-smaller invariant-loop-place decreases-loop-place
 more c =
-    let going = c.before.before.before in
-    let met = going.before.before.before.before.before.before in
-    let judged = met.before.before.before in
-    let read = judged.before.before in
-    let test = read.before.before.before in
     omega (
       arith,
-      moves_on _ _ _ _ test.before.loop.invariant test.loop-test.true read.before.parse.ensures.0 read.rows.given
-          (sym judged.before.is-met.ensures ∙ not-false _ judged.if1.false) met.meet.ensures going.if2.false,
+      moves_on _ _ _ _ c.loop-place.invariant c.loop-place-test.true c.parse-parsed.ensures.0 c.parse-parsed.auto.rows
+          (sym c.is_met.ensures ∙ c.if-not-is_met.false) c.meet-done.ensures c.if-done-ne0.false,
     )
 
-again_2 : tie.Need-loop-preserved-2 invariant-loop decreases-loop
+again_2 : tie.Need-loop-place-preserved invariant-loop-place decreases-loop-place
 again_2 c =
-    let going = c.before.before.before in
-    let met = going.before.before.before.before.before.before in
-    let judged = met.before.before.before in
-    let read = judged.before.before in
-    let test = read.before.before.before in
-    goes_on _ _ _ _ test.before.loop.invariant test.loop-test.true read.before.parse.ensures.0 read.rows.given
-    (sym judged.before.is-met.ensures ∙ not-false _ judged.if1.false) met.meet.ensures going.if2.false
+    goes_on _ _ _ _ c.loop-place.invariant c.loop-place-test.true c.parse-parsed.ensures.0 c.parse-parsed.auto.rows
+    (sym c.is_met.ensures ∙ c.if-not-is_met.false) c.meet-done.ensures c.if-done-ne0.false
 
-ended : tie.Need-returns-2 invariant-loop decreases-loop
-ended c =
-    let closed = c.before.before in
-    let test = closed.before.before in
-    ends _ _ _ _ test.before.loop.invariant test.loop-test.false (closed.close-gap.ensures.1 _)
+ended : tie.Need-returns invariant-loop-place decreases-loop-place
+ended c = ends _ _ _ _ c.loop-place.invariant c.loop-place-test.false (c.close_gap.ensures.1 _)
 
-pub salvage-spec : {M : Type 1} → statement M
-salvage-spec =
+pub salvage_spec : {M : Type 1} → statement M
+salvage_spec =
     tie.close
     (tie.spec
-    invariant-loop
-    decreases-loop
+    invariant-loop-place
+    decreases-loop-place
     (λ c. begins _ _ _ _)  -- loop_holds
     (λ c κs. search rules)  -- parse-requires
     (λ c κs. search rules)  -- is-met-requires
     (λ c. search rules)  -- add-next-place
     (λ c κs. search rules)  -- next-place-requires
-    (λ c. omega (arith, c.next_place.ensures.passed.onward))  -- loop-less
+    (λ c. omega (arith, c.next_place-place.ensures.passed.onward))  -- loop-less
     again
     inside
     (λ c. omega arith)  -- same-length

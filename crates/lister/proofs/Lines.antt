@@ -1,7 +1,7 @@
 -- The line of the numbers from one on is that number with what stands after it and the line of the others, and so with the lines of the
 -- rows. Assumes nothing.
 use mathlib.Core.List.{List, [], ◌∷◌, ◌++◌, map}
-use mathlib.Core.Path.{◌≡◌, refl, sym, ap, ◌∙◌}
+use mathlib.Core.Path.{◌≡◌, refl, ap, ◌∙◌}
 use Prim.Native.Nat.{ℕ, zero, suc, ◌+◌, ◌-◌, ◌*◌, ◌≤◌, ◌<◌}
 use native.Mathlib.Numerals.{add-one}
 use native.Mathlib.Omega.{arith}
@@ -9,7 +9,7 @@ use lib.IntN.{ℤ, pos}
 use lib.ListN.{length, take, drop, get_or, length-map, length-drop}
 use lib.Seq.{drop-cons, drop-drop}
 use Rattle.syntax.specs.Numbers.{row_width}
-use Rattle.listing.specs.Listing.{Each, Line, line, joined}
+use Rattle.listing.specs.Listing.{line}
 use Rattle.lister.specs.Listed.{stored, rows_in}
 use Rattle.lister.proofs.Short.{AllFit, ended, line_cons}
 

@@ -7,7 +7,7 @@ use lib.ListN.{length, drop}
 use Rattle.syntax.specs.Numbers.{row_width, numbers}
 use Rattle.syntax.specs.Place.{flatten}
 use Rattle.syntax.specs.Run.{Row}
-use Rattle.ac3.specs.Promise.{Call, listed}
+use Rattle.ac3.specs.Promise.{listed}
 use Rattle.ac3.proofs.Promise.{promised}
 use Rattle.lister.specs.Listed.{stored, rows_in, ListsTheRows}
 

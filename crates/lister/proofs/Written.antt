@@ -1,15 +1,14 @@
 -- What is written of a call's listing, from what was written of its answer's. Assumes nothing.
-use mathlib.Core.List.{List, [], ◌++◌}
+use mathlib.Core.List.{List, []}
 use mathlib.Core.Path.{◌≡◌, refl, sym, ap, ◌∙◌}
-use Prim.Native.Nat.{ℕ, ◌/◌, ◌≤◌, ◌<◌}
+use Prim.Native.Nat.{ℕ, ◌≤◌, ◌<◌}
 use native.Mathlib.Omega.{arith}
 use borrow.Author.Tests.{lt-ltb, le-ltb}
 use lib.IntN.{ℤ, pos}
 use lib.ListN.{length, take, drop, replicate, length-append, length-replicate}
 use lib.Seq.{sets, take_at}
-use Rattle.syntax.specs.Numbers.{row_width}
 use Rattle.ac3.specs.declared.Answer.{Answer}
-use Rattle.ac3.specs.Promise.{Call, call, answer_to, room_for}
+use Rattle.ac3.specs.Promise.{Call, call, answer_to}
 use Rattle.ac3.proofs.Promise.{promised}
 use Rattle.ac3.proofs.Within.{kept_within}
 use Rattle.listing.specs.Listing.{Valid, text}

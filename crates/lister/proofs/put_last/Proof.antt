@@ -53,8 +53,8 @@ five_are a {block = block} e h f b n s fits =
     let u = to_z-of_z {w = w32} {z = block} fits ∙ s in
     λ i. p i ∷ q i ∷ r i ∷ t i ∷ u i ∷ []
 
-pub put-last-spec : {M : Type 1} → statement M
-put-last-spec =
+pub put_last_spec : {M : Type 1} → statement M
+put_last_spec =
     tie.close
     (tie.spec
     (λ c κs. search rules)  -- small-requires
@@ -73,13 +73,13 @@ put-last-spec =
     let small = bit.before in
     let s = small.before.before in
     let a = s.args.a in
-    let same = three_are a small.small.ensures s.requires.0 (omega (arith, bytes.struct-known3.given)) (omega (arith, bit.struct_known.given)) in
-    let ends = ends_accepted a then.if1.true same in
-    let fit = line.put-line.ensures.1 in (
-      both_written ends s.args.out.now s.args.at said.put_word.ensures line.put-line.ensures.0,
+    let same = three_are a small.small-rows.ensures s.requires.0 (omega (arith, bytes.struct_known-then-a-eq0-1.given)) (omega (arith, bit.struct_known-1.given)) in
+    let ends = ends_accepted a then.if-a-eq0.true same in
+    let fit = line.put_line.ensures.1 in (
+      both_written ends s.args.out.now s.args.at said.put_word-said.ensures line.put_line.ensures.0,
       (
         ends.fit fit,
-        omega (arith, said.put_word.ensures.0, line.put-line.ensures.0.0, line_short (map stored (three a small.small.result)) fit.1),
+        omega (arith, said.put_word-said.ensures.0, line.put_line.ensures.0.0, line_short (map stored (three a small.small-rows.result)) fit.1),
       ),
     ))  -- returns
     (λ c κs. search rules)  -- put-word-requires-2
@@ -100,12 +100,12 @@ put-last-spec =
     let small = bit.before in
     let s = small.before.before in
     let a = s.args.a in
-    let same = five_are a small.small.ensures s.requires.0 (omega (arith, number.struct-known4.given)) (omega (arith, bit.struct_known.given)) (omega (arith, name.struct-known5.given)) shown.shown.ensures (search rules) in
-    let ends = ends_refused a else.if1.false same in
-    let fit = line.put-line2.ensures.1 in (
-      both_written ends s.args.out.now s.args.at said.put-word2.ensures line.put-line2.ensures.0,
+    let same = five_are a small.small-rows.ensures s.requires.0 (omega (arith, number.struct_known-3-1.given)) (omega (arith, bit.struct_known-1.given)) (omega (arith, name.struct_known-4-1.given)) shown.shown.ensures (search rules) in
+    let ends = ends_refused a else.if-a-eq0.false same in
+    let fit = line.put_line-2.ensures.1 in (
+      both_written ends s.args.out.now s.args.at said.put_word-said-2.ensures line.put_line-2.ensures.0,
       (
         ends.fit fit,
-        omega (arith, said.put-word2.ensures.0, line.put-line2.ensures.0.0, line_short (map stored (five a small.small.result shown.shown.result)) fit.1),
+        omega (arith, said.put_word-said-2.ensures.0, line.put_line-2.ensures.0.0, line_short (map stored (five a small.small-rows.result shown.shown.result)) fit.1),
       ),
     )))  -- returns-2

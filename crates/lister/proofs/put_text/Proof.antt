@@ -1,5 +1,4 @@
 -- `lister::put_text` meets its contract: the rows, and then the last line. Assumes nothing.
-use mathlib.Core.Path.{◌≡◌}
 use native.Mathlib.Omega.{arith}
 use borrow.Author.Rules.{rules}
 use Rattle.listing.specs.Listing.{line, joined}
@@ -9,8 +8,8 @@ use Rattle.lister.proofs.Lines.{length_rows}
 use Rattle.lister.proofs.put_text.Statement.{statement}
 use Rattle.lister.proofs.put_text.Tie as tie
 
-pub put-text-spec : {M : Type 1} → statement M
-put-text-spec =
+pub put_text_spec : {M : Type 1} → statement M
+put_text_spec =
     tie.close
     (tie.spec
     (λ c κs. search rules)  -- put-rows-requires
@@ -18,7 +17,7 @@ put-text-spec =
     (λ c. search rules)  -- same-length
     (λ c.
     let last = c.before.before.put_last in
-    let rows = c.before.before.before.before.before.before.put-rows in
+    let rows = c.before.before.before.before.before.before.put_rows-at in
     let s = c.before.before.before.before.before.before.before.before.before in
     let a = s.args.a in
     let room = s.args.rows.now in

@@ -1,7 +1,7 @@
 -- `lister::stored` meets its contract, by the sign of the number. Assumes nothing.
 use mathlib.Core.Bool.{true, false}
-use mathlib.Core.Path.{◌≡◌, refl, ap, subst}
-use Prim.Native.Nat.{ℕ, ◌+◌, ◌≤◌, ◌<◌, ◌^◌}
+use mathlib.Core.Path.{◌≡◌, refl, subst}
+use Prim.Native.Nat.{◌+◌, ◌≤◌, ◌<◌, ◌^◌}
 use native.Mathlib.Nat.{not-suc-le-zero}
 use native.Mathlib.Omega.{arith}
 use borrow.Author.Tests.{ltb-true}
@@ -28,18 +28,18 @@ fits : (z : ℤ) → lt_z z (pos 0) ≡ false → mag z < 2 ^ hbits w32 → nat_
 fits (pos n) e h = omega (arith, h)
 fits (negsuc n) e h = absurd (subst T e tt)
 
-pub stored-spec : {M : Type 1} → statement M
-stored-spec =
+pub stored_spec : {M : Type 1} → statement M
+stored_spec =
     tie.close
     (tie.spec
     (λ c.
     let s = c.before in
     let z = to_z-of_z w32 s.args.n s.ranges.n in
-    (negative s.args.n (rw z at c.if1.true), omega arith))  -- returns
+    (negative s.args.n (rw z at c.if-n-lt0.true), omega arith))  -- returns
     (λ c.
     let s = c.before in
     let z = to_z-of_z w32 s.args.n s.ranges.n in
-    rw z (index_fits s.args.n (rw z at c.if1.false) s.ranges.n))  -- cast_result
+    rw z (index_fits s.args.n (rw z at c.if-n-lt0.false) s.ranges.n))  -- cast_result
     (λ c.
     let s = c.before in
     let z = to_z-of_z w32 s.args.n s.ranges.n in
@@ -47,4 +47,4 @@ stored-spec =
     (λ c.
     let s = c.before in
     let z = to_z-of_z w32 s.args.n s.ranges.n in
-    rw z (one_more s.args.n (rw z at c.if1.false), fits s.args.n (rw z at c.if1.false) s.ranges.n.sfits)))  -- returns-2
+    rw z (one_more s.args.n (rw z at c.if-n-lt0.false), fits s.args.n (rw z at c.if-n-lt0.false) s.ranges.n.sfits)))  -- returns-2

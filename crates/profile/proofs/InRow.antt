@@ -1,5 +1,5 @@
 -- Row i breaks a rule if its name is the field's and its value breaks the rule. Assumes nothing.
-use mathlib.Core.Bool.{Bool, true, false, ◌&&◌}
+use mathlib.Core.Bool.{Bool, false, ◌&&◌}
 use mathlib.Core.List.{List}
 use mathlib.Core.Path.{◌≡◌, sym, ap, ◌∙◌}
 use Prim.Native.Nat.{ℕ, ◌+◌, ◌*◌}
@@ -8,7 +8,7 @@ use lib.ListN.{get_or, drop}
 use Rattle.header.specs.declared.Header.{Header}
 use Rattle.syntax.specs.Numbers.{row_width}
 use Rattle.ac3.specs.Rooms.{natural}
-use Rattle.rows.specs.Look.{value_column, named}
+use Rattle.rows.specs.Look.{value_column}
 use Rattle.rows.proofs.Look.{in_row, row_named, row_other}
 use Rattle.profile.specs.Rules.{Rule, broken_in}
 

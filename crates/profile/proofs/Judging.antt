@@ -1,11 +1,10 @@
 -- Rule by rule: the first one that a row breaks is told, any other is passed; and what is found in the room is what is found in the
 -- definition's rows. Assumes nothing.
-use mathlib.Core.Bool.{Bool, true, false, cond}
-use mathlib.Core.List.{List, [], ◌∷◌, ◌++◌}
+use mathlib.Core.Bool.{cond}
+use mathlib.Core.List.{List, ◌++◌}
 use mathlib.Core.Path.{◌≡◌, refl, sym, ap, ◌∙◌}
-use Prim.Native.Nat.{ℕ, suc, ◌+◌, ◌*◌, ◌≤◌, ◌<◌}
+use Prim.Native.Nat.{ℕ, ◌+◌, ◌*◌, ◌≤◌, ◌<◌}
 use native.Mathlib.Numerals.{add-one}
-use native.Mathlib.Omega.{arith}
 use borrow.Author.Tests.{eq-eqb, ne_eqb, lt-ltb, le-ltb}
 use lib.Dec.{eqb, ltb}
 use lib.IntN.{ℤ}
@@ -18,8 +17,6 @@ use Rattle.syntax.specs.Run.{Row}
 use Rattle.ac3.specs.Promise.{Call, call, listed, answer_to}
 use Rattle.ac3.specs.declared.Answer as parse
 use Rattle.ac3.proofs.Promise.{promised}
-use Rattle.rows.specs.Look.{first_where}
-use Rattle.rows.specs.Found.{index_where}
 use Rattle.rows.proofs.Found.{place}
 use Rattle.profile.specs.Rules.{Rule, rules, no_rule, rule, judged_by, broken, judged, broken_in, judged_in}
 use Rattle.profile.specs.Answers.{profile_to}

@@ -3,10 +3,10 @@ use mathlib.Core.Bool.{Bool, true, false, ◌&&◌, not, cond}
 use mathlib.Core.List.{List, [], ◌∷◌}
 use mathlib.Core.Logic.{◌⊎◌, inl, inr}
 use mathlib.Core.Path.{◌≡◌, refl, sym, ap, subst, ◌∙◌}
-use Prim.Native.Nat.{ℕ, zero, suc, ◌+◌, ◌*◌, ◌≤◌, ◌<◌}
+use Prim.Native.Nat.{ℕ, zero, suc, ◌+◌, ◌≤◌, ◌<◌}
 use native.Mathlib.Decide.{dec_le}
 use native.Mathlib.Omega.{arith}
-use borrow.Author.Tests.{eqb-true, eqb-false, eq-eqb, ne_eqb, lt-ltb, le-ltb, ltb-true, ltb-false}
+use borrow.Author.Tests.{eqb-true, eq-eqb, ne_eqb, le-ltb, ltb-true, ltb-false}
 use lib.Dec.{eqb, ltb}
 use lib.ListN.{length, get_or}
 use Rattle.header.specs.declared.Header.{Header}
@@ -17,9 +17,8 @@ use Rattle.rows.specs.Found.{First, index_where}
 use Rattle.rows.proofs.Opening.{head_rows}
 use Rattle.profile.specs.Rules.{Rule, rules, no_rule, rule, least_bytes, judged_by, broken, found_at, judged}
 use Rattle.profile.specs.Answers.{verdict_of}
-use Rattle.profile.specs.Profiled.{Stands, HasAt, header_of, BreaksAt, Kept, Told, Profiled, ProfileIsRight}
-use Rattle.profile.specs.declared.Verdict.{Verdict}
-use Rattle.profile.specs.declared.Verdict.TheVariants.{Refused, Within, Broken}
+use Rattle.profile.specs.Profiled.{Stands, HasAt, header_of, BreaksAt, Kept, Told, ProfileIsRight}
+use Rattle.profile.specs.declared.Verdict.TheVariants.{Within, Broken}
 
 no_such : {P : Type 0} → ◌≡◌ {A = Bool} true false → P
 no_such e = let z : ◌≡◌ {A = ℕ} 0 1 = cc in absurd (omega arith)

@@ -1,5 +1,5 @@
 -- The seven rules of the contribution profile, in their order, and the first one that is broken.
-use Rattle.std.specs.Prelude.{Bool, false, ◌&&◌, ◌||◌, not, cond, List, [], ◌∷◌, ℕ, suc, ◌+◌, ◌*◌, eqb, ltb, ℤ, pos, length, get_or}
+use Rattle.std.specs.Prelude.{Bool, false, ◌&&◌, not, cond, List, [], ◌∷◌, ℕ, suc, ◌*◌, eqb, ltb, ℤ, pos, length, get_or}
 use Rattle.syntax.specs.Names as Name
 use Rattle.syntax.specs.Run.{Row}
 use Rattle.header.specs.declared.Header.{Header}
@@ -7,7 +7,7 @@ use Rattle.ac3.specs.Rooms.{natural}
 use Rattle.rows.specs.Look.{value_column, named, first_where}
 use Rattle.rows.specs.Found.{index_where}
 use Rattle.profile.specs.declared.Verdict.{Verdict}
-use Rattle.profile.specs.declared.Verdict.TheVariants.{Refused, Within, Broken}
+use Rattle.profile.specs.declared.Verdict.TheVariants.{Within, Broken}
 
 -- A rule is broken by a field of this name whose value breaks it; some rules look at the frame's bytes or at acmod, too.
 pub record Rule : Type 0 where

@@ -1,6 +1,6 @@
 -- `profile::judged` meets its contract: the rules that are left decide. Assumes nothing.
 use mathlib.Core.Path.{◌≡◌, refl, ap, sym, ◌∙◌}
-use Prim.Native.Nat.{ℕ, ◌+◌, ◌-◌, ◌≤◌}
+use Prim.Native.Nat.{◌+◌, ◌-◌, ◌≤◌}
 use native.Mathlib.Omega.{arith}
 use borrow.Author.Rules.{rules}
 use Rattle.profile.specs.Rules.{found_in, judged_in}
@@ -9,45 +9,45 @@ use Rattle.profile.proofs.Judging.{from, stops, passes, all_passed}
 use Rattle.profile.proofs.judged.Statement.{statement}
 use Rattle.profile.proofs.judged.Tie as tie
 
-abbrev invariant-loop : tie.invariant-loop
-invariant-loop rows count header number₀ number = (number ≤ 7) × (judged_in header count rows ≡ from (found_in header count rows) count number)
+abbrev invariant-loop-number : tie.invariant-loop-number
+invariant-loop-number rows count header number₀ number = (number ≤ 7) × (judged_in header count rows ≡ from (found_in header count rows) count number)
 
-abbrev decreases-loop : tie.decreases-loop
-decreases-loop rows count header number₀ number = 7 - number
+abbrev decreases-loop-number : tie.decreases-loop-number
+decreases-loop-number rows count header number₀ number = 7 - number
 
-stopped : tie.Need-returns invariant-loop decreases-loop
+stopped : tie.Need-returns-then-row-count invariant-loop-number decreases-loop-number
 stopped c =
-    let row = c.before.first-broken in
+    let row = c.before.first_broken-row in
     let at = c.before.before.before in
     let a = at.before.args in
     let found = found_in a.header a.count a.rows.now in
-    ap (Broken (at.loop.number + 1)) row.ensures ∙ stops found a.count at.loop.number (omega arith) (omega (arith, row.ensures, c.if1.true)) ∙ sym at.loop.invariant.1
+    ap (Broken (at.loop-number.number + 1)) row.ensures ∙ stops found a.count at.loop-number.number (omega arith) (omega (arith, row.ensures, c.if-row-count.true)) ∙ sym at.loop-number.invariant.1
 
-again : tie.Need-loop-preserved invariant-loop decreases-loop
+again : tie.Need-loop-number-preserved invariant-loop-number decreases-loop-number
 again c =
-    let row = c.before.first-broken in
+    let row = c.before.first_broken-row in
     let at = c.before.before.before in
     let a = at.before.args in
     let found = found_in a.header a.count a.rows.now in
-    (omega arith, at.loop.invariant.1 ∙ passes found a.count at.loop.number (omega arith) (omega (arith, row.ensures, c.if1.false)))
+    (omega arith, at.loop-number.invariant.1 ∙ passes found a.count at.loop-number.number (omega arith) (omega (arith, row.ensures, c.if-row-count.false)))
 
-none : tie.Need-returns-2 invariant-loop decreases-loop
+none : tie.Need-returns invariant-loop-number decreases-loop-number
 none c =
     let at = c.before in
     let a = at.before.args in
-    all_passed (found_in a.header a.count a.rows.now) a.count at.loop.number (omega arith) ∙ sym at.loop.invariant.1
+    all_passed (found_in a.header a.count a.rows.now) a.count at.loop-number.number (omega arith) ∙ sym at.loop-number.invariant.1
 
-pub judged-spec : {M : Type 1} → statement M
-judged-spec =
+pub judged_spec : {M : Type 1} → statement M
+judged_spec =
     tie.close
     (tie.spec
-    invariant-loop
-    decreases-loop
-    (λ c. (omega arith, refl))  -- loop_holds
-    (λ c κs. search rules)  -- first-broken-requires
-    (λ c. search rules)  -- add-t7
+    invariant-loop-number
+    decreases-loop-number
+    (λ c. (omega arith, refl))  -- loop-number-init
+    (λ c κs. search rules)  -- first_broken-row-requires
+    (λ c. search rules)  -- overflow_add-result
     stopped
-    (λ c. search rules)  -- add-number
-    (λ c. search rules)  -- loop-less
+    (λ c. search rules)  -- overflow_step-number
+    (λ c. search rules)  -- loop-number-smaller
     again
     none)

@@ -4,26 +4,21 @@ use Rattle.profile.proofs.Judging.{refused_frame, judged_frame}
 use Rattle.profile.proofs.profile.Statement.{statement}
 use Rattle.profile.proofs.profile.Tie as tie
 
-returns : tie.Need-returns
+returns : tie.Need-returns-then-parsed-ne0
 returns c =
-    let parsed = c.before.before.before in
-    let a = parsed.before.before.before.args in
-    refused_frame a.capture.now a.place a.rows.now parsed.parse.ensures.0 c.if1.true
+    refused_frame c.args.capture.now c.args.place c.args.rows.now c.parse-parsed.ensures.0 c.if-parsed-ne0.true
 
-returns-2 : tie.Need-returns-2
+returns-2 : tie.Need-returns
 returns-2 c =
-    let else1 = c.before.before.before.before in
-    let parsed = else1.before.before.before in
-    let a = parsed.before.before.before.args in
-    judged_frame a.capture.now a.place a.rows.now parsed.parse.ensures.0 else1.if1.false c.judged.ensures
+    judged_frame c.args.capture.now c.args.place c.args.rows.now c.parse-parsed.ensures.0 c.if-parsed-ne0.false c.judged.ensures
 
-pub profile-spec : {M : Type 1} → statement M
-profile-spec =
+pub profile_spec : {M : Type 1} → statement M
+profile_spec =
     tie.close
     (tie.spec
-    (λ c κs. search rules)  -- parse-requires
-    (λ c. search rules)  -- same-length
+    (λ c κs. search rules)  -- parse-parsed-requires
+    (λ c. search rules)  -- shape_of-rows-then-parsed-ne0
     returns
     (λ c κs. search rules)  -- judged-requires
-    (λ c. search rules)  -- same-length-2
+    (λ c. search rules)  -- shape_of-rows
     returns-2)

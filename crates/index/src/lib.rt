@@ -43,7 +43,7 @@ const DIALNORM2: u8 = 20;
 const LARGEST: usize = 0xFFFF_FFFF;
 
 // A frame of the capture. The second dialnorm is that of the second programme, which is there where acmod is 0; else it is 0.
-#[derive(Drop)]
+#[derive(Clone, Copy)]
 pub struct Entry {
     pub place: usize,
     pub size: usize,
@@ -173,10 +173,9 @@ fn fill(
             place = salvage::next_place(capture, place + 1);
             continue;
         }
+        let header = parsed.summary.header;
         put(index, done, entry_of(rows, parsed, place));
         done += 1;
-        let summary = parsed.summary;
-        let header = summary.header;
         place += header.bytes as usize;
     }
     Answer {

@@ -2,62 +2,45 @@
 use mathlib.Core.Path.{refl, sym, ◌∙◌}
 use native.Mathlib.Omega.{arith}
 use borrow.Author.Rules.{rules}
-use borrow.Author.Tests.{not-true, not-false}
 use Rattle.index.proofs.Begins.{afresh, no_such, refused_there, other_there, behind, inside}
 use Rattle.index.proofs.begin.Statement.{statement}
 use Rattle.index.proofs.begin.Tie as tie
 
-lacks_entry : tie.Need-returns
-lacks_entry c = (afresh _ _ _ _ c.if1.true, λ _. (omega arith, omega arith))
+lacks_entry : tie.Need-returns-then-entries-eq0
+lacks_entry c = (afresh _ _ _ _ c.if-entries-eq0.true, λ _. (omega arith, omega arith))
 
-too_few : tie.Need-returns-2
-too_few c = (no_such _ _ _ _ c.before.if1.false c.if2.true, λ z. absurd (omega arith))
+too_few : tie.Need-returns-then-index-entries
+too_few c = (no_such _ _ _ _ c.before.if-entries-eq0.false c.if-index-entries.true, λ z. absurd (omega arith))
 
-not_accepted : tie.Need-returns-3
+not_accepted : tie.Need-returns-then-parsed-ne0
 not_accepted c =
-    let read = c.before.before in
-    let old = read.before.before.before.before in
-    (refused_there _ _ _ _ old.before.if1.false (omega (arith, old.if2.false)) read.before.parse.ensures.0 c.if3.true, λ z. absurd (omega arith))
+    (refused_there _ _ _ _ c.if-entries-eq0.false (omega (arith, c.if-index-entries.false)) c.parse-parsed.ensures.0 c.if-parsed-ne0.true, λ z. absurd (omega arith))
 
-another : tie.Need-returns-4
+another : tie.Need-returns-then-not-is_entry
 another c =
-    let told = c.before.before in
-    let judged = told.before.before in
-    let read = judged.before.before in
-    let old = read.before.before.before.before in
-    let parsed = read.before.parse.ensures.0 in (
-      other_there _ _ _ _ old.before.if1.false (omega (arith, old.if2.false)) parsed judged.if3.false (told.entry_of.ensures _ refl parsed)
-          (sym c.before.is-entry.ensures ∙ not-true _ c.if4.true),
+    let parsed = c.parse-parsed.ensures.0 in (
+      other_there _ _ _ _ c.if-entries-eq0.false (omega (arith, c.if-index-entries.false)) parsed c.if-parsed-ne0.false (c.entry_of-e.ensures _ refl parsed)
+          (sym c.is_entry.ensures ∙ c.if-not-is_entry.true),
       λ z. absurd (omega arith),
     )
 
-fits : tie.Need-overflow-add-t13
+fits : tie.Need-overflow_add-result
 fits c =
-    let told = c.before.before.before in
-    let judged = told.before.before in
-    let read = judged.before.before in
-    let old = read.before.before.before.before in
-    let parsed = read.before.parse.ensures.0 in
-    let entry = old.before.before.before.before in
-    let a = entry.args in
-    omega (arith, inside a.capture.now a.rows.now a.index.now a.entries old.before.if1.false (omega (arith, old.if2.false)) parsed judged.if3.false (told.entry_of.ensures _ refl parsed), entry.well-formed.0.0)
+    let parsed = c.parse-parsed.ensures.0 in
+    let a = c.args in
+    omega (arith, inside a.capture.now a.rows.now a.index.now a.entries c.if-entries-eq0.false (omega (arith, c.if-index-entries.false)) parsed c.if-parsed-ne0.false (c.entry_of-e.ensures _ refl parsed), c.well_formed.0.0)
 
-there : tie.Need-returns-5
+there : tie.Need-returns
 there c =
-    let same = c.before in
-    let told = same.before.before in
-    let judged = told.before.before in
-    let read = judged.before.before in
-    let old = read.before.before.before.before in
-    let parsed = read.before.parse.ensures.0 in
-    let is = told.entry_of.ensures _ refl parsed in
-    let a = old.before.before.before.before.args in (
-      behind _ _ _ _ old.before.if1.false (omega (arith, old.if2.false)) parsed judged.if3.false is (sym same.before.is-entry.ensures ∙ not-false _ same.if4.false),
-      λ _. (inside a.capture.now a.rows.now a.index.now a.entries old.before.if1.false (omega (arith, old.if2.false)) parsed judged.if3.false is, omega (arith, old.if2.false)),
+    let parsed = c.parse-parsed.ensures.0 in
+    let is = c.entry_of-e.ensures _ refl parsed in
+    let a = c.args in (
+      behind _ _ _ _ c.if-entries-eq0.false (omega (arith, c.if-index-entries.false)) parsed c.if-parsed-ne0.false is (sym c.is_entry.ensures ∙ c.if-not-is_entry.false),
+      λ _. (inside a.capture.now a.rows.now a.index.now a.entries c.if-entries-eq0.false (omega (arith, c.if-index-entries.false)) parsed c.if-parsed-ne0.false is, omega (arith, c.if-index-entries.false)),
     )
 
-pub begin-spec : {M : Type 1} → statement M
-begin-spec =
+pub begin_spec : {M : Type 1} → statement M
+begin_spec =
     tie.close
     (tie.spec
     lacks_entry

@@ -34,12 +34,12 @@ module _ (c : Call) {a : parse.Answer} {rows : List ℤ} (told : (a, rows) ≡ a
         second = (two _ (found Name.dialnorm2) ∙ ap (λ x. cond (eqb x.0.summary.header.acmod 0) (value_of Name.dialnorm2 (listed c)) 0) told) i;
       }
 
-pub entry-of-spec : {M : Type 1} → statement M
-entry-of-spec =
+pub entry_of_spec : {M : Type 1} → statement M
+entry_of_spec =
     tie.close
     (tie.spec
     (λ c. search rules)  -- cast-t7
     (λ c. search rules)  -- cast-t8
     (λ c κs. search rules)  -- level-requires
     (λ c κs. search rules)  -- second-level-requires
-    (λ c call here told. entry_is call told here c.before.level.ensures c.second-level.ensures))  -- returns
+    (λ c call here told. entry_is call told here c.before.level.ensures c.second_level.ensures))  -- returns

@@ -7,34 +7,27 @@ use Rattle.index.proofs.Answered.{ample, entries_are, no_fields_lem, no_room_lem
 use Rattle.index.proofs.extend.Statement.{statement}
 use Rattle.index.proofs.extend.Tie as tie
 
-one_walk : tie.Need-returns
+one_walk : tie.Need-returns-then-is_ample
 one_walk c =
-    let tested = c.before.before.before.before.before.before in
-    let entry = tested.before.before.before.before in
-    let a = entry.args in
-    ample a.capture.now a.rows.now a.index.now a.entries a.from entry.requires.0 entry.requires.1 (sym tested.before.is-ample.ensures ∙ tested.if1.true) c.before.before.before.fill.ensures
+    let a = c.args in
+    ample a.capture.now a.rows.now a.index.now a.entries a.from c.requires.0 c.requires.1 (sym c.is_ample.ensures ∙ c.if-is_ample.true) c.fill.ensures
 
-stopped : tie.Need-returns-2
-stopped c = no_fields_lem _ _ _ _ _ c.before.before.before.before.before.fill2.ensures c.if2.true
+stopped : tie.Need-returns-then-counted-ne0
+stopped c = no_fields_lem _ _ _ _ _ c.fill-counted.ensures c.if-counted-ne0.true
 
-counted : tie.Need-overflow-sub-if3-2
+counted : tie.Need-overflow_sub-counted
 counted c =
-    let a = c.before.before.before.before.before.before.before.before.before.before.before.before.before.args in
-    omega (arith, entries_are a.capture.now a.rows.now a.index.now a.entries a.from c.before.before.before.before.before.before.fill2.ensures)
+    let a = c.args in
+    omega (arith, entries_are a.capture.now a.rows.now a.index.now a.entries a.from c.fill-counted.ensures)
 
-too_many : tie.Need-returns-3
-too_many c = no_room_lem _ _ _ _ _ c.before.before.before.before.before.before.before.fill2.ensures c.before.before.if2.false c.if3.true
+too_many : tie.Need-returns-then-room-entries
+too_many c = no_room_lem _ _ _ _ _ c.fill-counted.ensures c.if-counted-ne0.false c.if-room-entries.true
 
-two_walks : tie.Need-returns-4
-two_walks c =
-    let tested = c.before.before.before.before.before.before in
-    let counted = tested.before.before in
-    let first = counted.before.before.before.before.before in
-    let entry = first.before.before.before.before.before.before.before in
-    second _ _ _ _ _ first.fill2.ensures counted.if2.false entry.requires.1 tested.if3.false c.before.before.before.fill3.ensures
+two_walks : tie.Need-returns
+two_walks c = second _ _ _ _ _ c.fill-counted.ensures c.if-counted-ne0.false c.requires.1 c.if-room-entries.false c.fill-2.ensures
 
-pub extend-spec : {M : Type 1} → statement M
-extend-spec =
+pub extend_spec : {M : Type 1} → statement M
+extend_spec =
     tie.close
     (tie.spec
     (λ c. search rules)  -- sub-is-ample

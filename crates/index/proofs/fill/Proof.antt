@@ -8,73 +8,48 @@ use Rattle.index.proofs.Loop.{Going, begins, full, short, on, within, moves, mee
 use Rattle.index.proofs.fill.Statement.{statement}
 use Rattle.index.proofs.fill.Tie as tie
 
-abbrev invariant-loop : tie.invariant-loop
-invariant-loop capture rows₀ index₀ entries from done₀ place₀ rows index done place = Going capture rows₀ index₀ entries from rows index done place
+abbrev invariant-loop-place : tie.invariant-loop-place
+invariant-loop-place capture rows₀ index₀ entries from done₀ place₀ rows index done place = Going capture rows₀ index₀ entries from rows index done place
 
-abbrev decreases-loop : tie.decreases-loop
-decreases-loop capture rows₀ index₀ entries from done₀ place₀ rows index done place = length capture - place
+abbrev decreases-loop-place : tie.decreases-loop-place
+decreases-loop-place capture rows₀ index₀ entries from done₀ place₀ rows index done place = length capture - place
 
-no_row : tie.Need-returns invariant-loop decreases-loop
+no_row : tie.Need-returns-then-parsed-eq-NO_ROW invariant-loop-place decreases-loop-place
 no_row c =
-    let read = c.before.before in
-    let test = read.before.before.before in
-    full _ _ _ _ _ test.before.loop.invariant test.loop-test.true read.before.parse.ensures.0 read.rows.given c.if1.true
+    full _ _ _ _ _ c.loop-place.invariant c.loop-place-test.true c.parse-parsed.ensures.0 c.parse-parsed.auto.rows c.if-parsed-eq-NO_ROW.true
 
-too_short : tie.Need-returns-2 invariant-loop decreases-loop
+too_short : tie.Need-returns-then-is_short invariant-loop-place decreases-loop-place
 too_short c =
-    let read = c.before.before.before.before in
-    let test = read.before.before.before in
-    short _ _ _ _ _ test.before.loop.invariant test.loop-test.true read.before.parse.ensures.0 read.rows.given (sym c.before.is_too_short.ensures ∙ c.if2.true)
+    short _ _ _ _ _ c.loop-place.invariant c.loop-place-test.true c.parse-parsed.ensures.0 c.parse-parsed.auto.rows (sym c.is_short.ensures ∙ c.if-is_short.true)
 
-again : tie.Need-loop-preserved invariant-loop decreases-loop
+again : tie.Need-loop-place-preserved-then-parsed-ne0 invariant-loop-place decreases-loop-place
 again c =
-    let judged = c.before.before.before in
-    let full = judged.before.before in
-    let read = full.before.before in
-    let test = read.before.before.before in
-    on _ _ _ _ _ test.before.loop.invariant test.loop-test.true read.before.parse.ensures.0 read.rows.given
-    full.if1.false (sym judged.before.is_too_short.ensures ∙ judged.if2.false) c.before.if3.true c.next_place.ensures.passed
+    on _ _ _ _ _ c.loop-place.invariant c.loop-place-test.true c.parse-parsed.ensures.0 c.parse-parsed.auto.rows
+    c.if-parsed-eq-NO_ROW.false (sym c.is_short.ensures ∙ c.if-is_short.false) c.if-parsed-ne0.true c.next_place-place.ensures.passed
 
 -- an entry is counted for each so many bytes, so the count fits
-one_more : tie.Need-overflow-add-done invariant-loop decreases-loop
+one_more : tie.Need-overflow_add-done invariant-loop-place decreases-loop-place
 one_more c =
-    let met = c.before.before.before.before.before.before in
-    let read = met.before.before.before.before.before.before in
-    let test = read.before.before.before in
-    let start = test.before.before.before.before in
-    let inv = test.before.loop.invariant in
-    omega (arith, inv.counted, inv.inside, start.requires.1, start.well-formed.0.0)
+    let inv = c.loop-place.invariant in
+    omega (arith, inv.counted, inv.inside, c.requires.1, c.well_formed.0.0)
 
-fits : tie.Need-overflow-add-place invariant-loop decreases-loop
-fits c =
-    let met = c.before.before.before.before.before.before.before.before.before in
-    let read = met.before.before.before.before.before.before in
-    let test = read.before.before.before in
-    let start = test.before.before.before.before in
-    omega (arith, within _ _ _ _ _ test.before.loop.invariant test.loop-test.true read.before.parse.ensures.0 read.rows.given, start.well-formed.0.0)
+fits : tie.Need-overflow_add-place-in-loop-place invariant-loop-place decreases-loop-place
+fits c = omega (arith, within _ _ _ _ _ c.loop-place.invariant c.loop-place-test.true c.parse-parsed.ensures.0 c.parse-parsed.auto.rows, c.well_formed.0.0)
 
-less : tie.Need-loop-smaller-2 invariant-loop decreases-loop
-less c =
-    let met = c.before.before.before.before.before.before.before.before.before in
-    let read = met.before.before.before.before.before.before in
-    let test = read.before.before.before in
-    omega (arith, moves _ _ _ _ _ test.before.loop.invariant test.loop-test.true read.before.parse.ensures.0 read.rows.given met.if3.false)
+less : tie.Need-loop-place-smaller invariant-loop-place decreases-loop-place
+less c = omega (arith, moves _ _ _ _ _ c.loop-place.invariant c.loop-place-test.true c.parse-parsed.ensures.0 c.parse-parsed.auto.rows c.if-parsed-ne0.false)
 
-again_2 : tie.Need-loop-preserved-2 invariant-loop decreases-loop
+again_2 : tie.Need-loop-place-preserved invariant-loop-place decreases-loop-place
 again_2 c =
-    let put = c.before.before.before.before.before in
-    let met = put.before.before.before.before in
-    let read = met.before.before.before.before.before.before in
-    let test = read.before.before.before in
-    let parsed = read.before.parse.ensures.0 in
-    meets _ _ _ _ _ test.before.loop.invariant test.loop-test.true parsed read.rows.given met.if3.false (put.before.entry_of.ensures _ refl parsed) put.put.ensures
+    let parsed = c.parse-parsed.ensures.0 in
+    meets _ _ _ _ _ c.loop-place.invariant c.loop-place-test.true parsed c.parse-parsed.auto.rows c.if-parsed-ne0.false (c.entry_of.ensures _ refl parsed) c.put.ensures
 
 pub fill_spec : {M : Type 1} → statement M
 fill_spec =
     tie.close
     (tie.spec
-    invariant-loop
-    decreases-loop
+    invariant-loop-place
+    decreases-loop-place
     (λ c. begins _ _ _ _ _ (omega arith))  -- loop_holds
     (λ c κs. search rules)  -- parse-requires
     (λ c. omega arith)  -- same-length
@@ -86,7 +61,7 @@ fill_spec =
     too_short
     (λ c. search rules)  -- add-next-place
     (λ c κs. search rules)  -- next-place-requires
-    (λ c. omega (arith, c.next_place.ensures.passed.onward))  -- loop-less
+    (λ c. omega (arith, c.next_place-place.ensures.passed.onward))  -- loop-less
     again
     (λ c κs. search rules)  -- entry-of-requires
     (λ c κs. search rules)  -- put-requires
@@ -97,4 +72,4 @@ fill_spec =
     again_2
     (λ c. omega arith)  -- same-length-5
     (λ c. omega arith)  -- same-length-6
-    (λ c. ends _ _ _ _ _ c.before.loop.invariant c.loop-test.false))  -- returns-3
+    (λ c. ends _ _ _ _ _ c.before.loop-place.invariant c.loop-place-test.false))  -- returns-3

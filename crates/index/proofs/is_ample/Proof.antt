@@ -3,9 +3,9 @@ use borrow.Author.Tests.{le-leb, lt-leb}
 use Rattle.index.proofs.is_ample.Statement.{statement}
 use Rattle.index.proofs.is_ample.Tie as tie
 
-pub is-ample-spec : {M : Type 1} → statement M
-is-ample-spec =
+pub is_ample_spec : {M : Type 1} → statement M
+is_ample_spec =
     tie.close
     (tie.spec
-    (λ c. rw (le-leb _ _ c.if1.true))  -- returns
-    (λ c. rw (lt-leb _ _ c.if1.false)))  -- returns-2
+    (λ c. rw (le-leb _ _ c.if-rows-ge-MOST_ROWS.true))  -- returns
+    (λ c. rw (lt-leb _ _ c.if-rows-ge-MOST_ROWS.false)))  -- returns-2

@@ -20,8 +20,8 @@ told c v e =
     let read = c.before.value in
     c.clamp.ensures ∙ ap (λ z. clamp_z z 0xFFFF_FFFF) (to_z-of_z {w = w32} {z = read.result} (search rules)) ∙ unclamped read.result v (search rules) (read.ensures ∙ e)
 
-pub level-spec : {M : Type 1} → statement M
-level-spec =
+pub level_spec : {M : Type 1} → statement M
+level_spec =
     tie.close
     (tie.spec
     (λ c κs. search rules)  -- value-requires

@@ -8,13 +8,13 @@ use Rattle.index.specs.Filled.{put}
 use Rattle.index.proofs.put.Statement.{statement}
 use Rattle.index.proofs.put.Tie as tie
 
-none : tie.Need-returns
+none : tie.Need-returns-then-index-entries
 unfolding put
-none c = rw (le-ltb _ _ c.if1.true)
+none c = rw (le-ltb _ _ c.if-index-entries.true)
 
-five : tie.Need-returns-2
+five : tie.Need-returns
 unfolding put
-five c = let room = lt-ltb _ _ c.if1.false in rw room (simp towards_suc)
+five c = let room = lt-ltb _ _ c.if-index-entries.false in rw room (simp towards_suc)
 
 pub put_spec : {M : Type 1} → statement M
 put_spec =

@@ -38,7 +38,7 @@ pub const SLOT_COUNTS: usize = 42;
 
 // What the summary tells of the blocks: how many use coupling, whether coordinates were sent, where blocks and mantissas start, and the
 // mantissa bits of each slot, those of block 0 first.
-#[derive(Drop)]
+#[derive(Clone, Copy)]
 pub struct Tally {
     pub coupled: u8,
     pub coordinates: bool,
@@ -48,7 +48,7 @@ pub struct Tally {
 }
 
 // An accepted frame's summary; its end is audio_end.
-#[derive(Drop)]
+#[derive(Clone, Copy)]
 pub struct Summary {
     pub rows: usize,
     pub end: u16,
@@ -58,7 +58,7 @@ pub struct Summary {
 
 // Refusal 0: accepted. The bit is the first one not yet read, audio_end if accepted. Refusal 6 tells the name and the block of what did not
 // fit; every other answer has name 0 and no block.
-#[derive(Drop)]
+#[derive(Clone, Copy)]
 pub struct Answer {
     pub refusal: u8,
     pub rows: usize,
@@ -70,7 +70,7 @@ pub struct Answer {
 
 // What is answered of a header by itself. Refusal 0: it was read to its end, and the bit is the first one after it. A refusal's header is
 // all zeros.
-#[derive(Drop)]
+#[derive(Clone, Copy)]
 pub struct HeaderAnswer {
     pub refusal: u8,
     pub rows: usize,

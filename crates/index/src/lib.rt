@@ -173,9 +173,10 @@ fn fill(
             place = salvage::next_place(capture, place + 1);
             continue;
         }
-        let header = parsed.summary.header;
         put(index, done, entry_of(rows, parsed, place));
         done += 1;
+        let summary = parsed.summary;
+        let header = summary.header;
         place += header.bytes as usize;
     }
     Answer {

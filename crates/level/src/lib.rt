@@ -71,7 +71,8 @@ fn refusal_for(parsed: Parsed, programme: usize, level: usize) -> u8
     if parsed.refusal != 0 {
         return parsed.refusal;
     }
-    let header = parsed.summary.header;
+    let summary = parsed.summary;
+    let header = summary.header;
     if !is_present(header.acmod, programme) {
         return NO_PROGRAMME;
     }
@@ -114,7 +115,6 @@ pub fn correct(
 {
     let parsed = ac3::parse(capture, place, rows);
     let count = parsed.rows;
-    let header = parsed.summary.header;
     let refusal = refusal_for(parsed, programme, level);
     if refusal != 0 {
         return Answer {
@@ -123,6 +123,8 @@ pub fn correct(
             changes: 0,
         };
     }
+    let summary = parsed.summary;
+    let header = summary.header;
     let name = dialnorm_of(programme);
     let at = position(rows, count, name);
     let listed = mend::mend(

@@ -181,11 +181,12 @@ pub fn salvage(capture: &[u8], rows: &mut [i32], list: &mut [usize], out: &mut [
             place = next_place(capture, place + 1);
             continue;
         }
-        let header = parsed.summary.header;
         done = meet(capture, list, out, done, parsed, from, place);
         if done.refusal != 0 {
             return done;
         }
+        let summary = parsed.summary;
+        let header = summary.header;
         place += header.bytes as usize;
         from = place;
     }

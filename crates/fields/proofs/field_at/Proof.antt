@@ -1,6 +1,6 @@
 -- `fields::field_at` meets its contract: the nine numbers that are read are the row. Assumes nothing.
 use mathlib.Core.List.{[], ◌∷◌}
-use mathlib.Core.Path.{◌≡◌, refl, ap, ◌∙◌}
+use mathlib.Core.Path.{refl, ap, ◌∙◌}
 use Prim.Native.Nat.{ℕ, ◌+◌, ◌*◌}
 use borrow.Author.Rules.{rules}
 use lib.IntN.{ℤ, pos}

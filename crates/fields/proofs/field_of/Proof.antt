@@ -1,6 +1,6 @@
 -- `fields::field_of` meets its contract: seven numbers of the row are the record's own, and the calls make the role of the other two. Assumes
 -- nothing.
-use mathlib.Core.Path.{◌≡◌, refl, ◌∙◌}
+use mathlib.Core.Path.{◌≡◌, refl}
 use Prim.Native.Nat.{ℕ}
 use borrow.Author.Rules.{rules}
 use lib.IntN.{ℤ, pos}

@@ -1,5 +1,5 @@
 -- Before the first turn nothing is filled in; a turn fills in one record more.
-use Rattle.std.proofs.Common.{◌≡◌, ap, ◌∙◌, arith}
+use Rattle.std.proofs.Common.{ap, ◌∙◌, arith}
 use Rattle.std.proofs.Math.ListN.{set}
 use Rattle.fields.specs.Fields.{field_at}
 use Rattle.fields.proofs.Filled.{filled_none, filled_next}

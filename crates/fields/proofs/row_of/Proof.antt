@@ -1,10 +1,10 @@
 -- `fields::row_of` meets its contract: seven numbers are the record's own, and the calls give the other two. Assumes nothing.
 use mathlib.Core.List.{[], ◌∷◌}
-use mathlib.Core.Path.{◌≡◌, refl, ap, ◌∙◌}
+use mathlib.Core.Path.{refl, ap, ◌∙◌}
 use native.Mathlib.Omega.{arith}
 use borrow.Author.Rules.{rules}
 use lib.IntN.{pos}
-use Rattle.syntax.specs.Numbers.{role_numbers, shown}
+use Rattle.syntax.specs.Numbers.{shown}
 use Rattle.syntax.proofs.Signed.{widened}
 use Rattle.fields.proofs.Passed.{passed}
 use Rattle.fields.proofs.row_of.Statement.{statement}

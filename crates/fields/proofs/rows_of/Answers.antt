@@ -1,5 +1,5 @@
 -- Before the first turn nothing is written; a turn writes the next record's row where the last one ends.
-use Rattle.std.proofs.Common.{◌≡◌, ◌+◌, ◌*◌, ◌<◌, ◌≤◌, length, get_or, ap, ◌∙◌, List, arith}
+use Rattle.std.proofs.Common.{◌≡◌, ◌*◌, ◌<◌, length, get_or, ap, ◌∙◌, List, arith}
 use Rattle.std.proofs.Math.IntN.{ℤ}
 use Rattle.std.proofs.Math.Seq.{sets}
 use Rattle.std.proofs.lemmas.List.{get_or_default}
@@ -18,9 +18,9 @@ loop-i-preserved c =
     let there : i < length fields = omega arith in
     let row : c.row_of-row.result ≡ row_of (get_or fields i blank) = c.row_of-row.ensures ∙ ap row_of (get_or_default fields i _ blank there) in
     let put =
-      c.put_row.ensures
-      ∙ ap (λ (r : List ℤ). sets c.loop-i.rows (i * row_width) (row_at r 0)) row
-      ∙ ap (λ (rows : List ℤ). sets rows (i * row_width) (row_of (get_or fields i blank))) c.loop-i.invariant.done in
+    c.put_row.ensures
+    ∙ ap (λ (r : List ℤ). sets c.loop-i.rows (i * row_width) (row_at r 0)) row
+    ∙ ap (λ (rows : List ℤ). sets rows (i * row_width) (row_of (get_or fields i blank))) c.loop-i.invariant.done in
     record {
       within = omega arith;
       done = written_next fields c.args.rows.now i c.put_row.new.rows there (omega arith) put;

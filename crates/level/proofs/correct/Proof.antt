@@ -29,16 +29,16 @@ placed_inside fine =
     in_capture a.capture.now a.place a.programme a.level a.rows.now a.changes.now fine.parse-parsed.ensures.0 (free fine) fine.parse-parsed.ensures.1.1
 
 dialnorm_of_name_requires : tie.Need-dialnorm_of-name-requires
-dialnorm_of_name_requires c κs = let f = known c in (f.counted, f.few)
+dialnorm_of_name_requires c κs = let f = known c.before.before in (f.counted, f.few)
 
 sub_mend : tie.Need-slice_bounds-mend-count
-sub_mend c = placed_inside c.before.before
+sub_mend c = placed_inside c.before.before.before.before
 
 part_mend_start : tie.Need-slice_bounds-mend-start
-part_mend_start c = placed_inside c.before.before
+part_mend_start c = placed_inside c.before.before.before.before
 
 cast_mend : tie.Need-overflow_cast-level
-cast_mend c = omega (arith, (known c.before.before.before).most)
+cast_mend c = omega (arith, (known c.before.before.before.before.before).most)
 
 returns-2 : tie.Need-returns
 returns-2 c =

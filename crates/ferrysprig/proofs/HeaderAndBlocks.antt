@@ -10,12 +10,11 @@ use lib.Dec.{eqb}
 use lib.IntN.{ℤ, pos, negsuc}
 use lib.ListN.{length, get_or, drop}
 use lib.Seq.{drop-cons}
-use borrow.Author.Tests.{eqb-true, eqb-false, eq-eqb, ne_eqb}
+use borrow.Author.Tests.{eqb-true, eq-eqb}
 use Rattle.alloc.specs.Allocation.{from}
 use Rattle.signed.specs.Level.{eq_z}
 use Rattle.signed.proofs.Equal.{eq_z_yes, eq_z_no}
 use Rattle.syntax.specs.Numbers.{shown}
-use Rattle.header.specs.declared.Header.{Header}
 use Rattle.ac3.specs.Apart.{header_to, same_answer, fits, unfit, afresh_if, blocks_to, ended_at, in_turn}
 use Rattle.ac3.specs.Frame.{slot_counts}
 use Rattle.ac3.specs.Later.{AlikeBefore}

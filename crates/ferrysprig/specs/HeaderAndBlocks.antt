@@ -1,6 +1,6 @@
 -- Header and blocks apart, for a caller who holds only numbers and the room. The contracts of `ferrysprig_header` and `ferrysprig_blocks` say
 -- that numbers and room at exit are `header_told (header_to c)` and `blocks_held c given`.
-use Rattle.std.specs.Prelude.{cond, List, [], ◌∷◌, ◌++◌, ◌≡◌, ℕ, ℤ, pos, get_or, replicate}
+use Rattle.std.specs.Prelude.{cond, List, ◌∷◌, ◌++◌, ◌≡◌, ℕ, ℤ, pos, get_or, replicate}
 use Rattle.signed.specs.Level.{eq_z}
 use Rattle.ac3.specs.Apart.{header_to, unfit, blocks_to}
 use Rattle.ac3.specs.Frame.{slot_counts}

@@ -4,9 +4,6 @@
 mod apart;
 mod packing;
 
-pub use apart::HEADER_ANSWER;
-pub use packing::{PACKING_ANSWER, ferrysprig_pack, ferrysprig_unpack};
-
 ghost use Rattle.std.specs.Prelude.{◌≡◌, ◌≤◌, length};
 ghost use Rattle.bits.specs.Bits.{range_eq};
 ghost use Rattle.syntax.specs.Names as Name;
@@ -34,7 +31,9 @@ ghost use Rattle.ferrysprig.specs.Salvages.{salvage_numbers, salvage_told};
 ghost use Rattle.ferrysprig.specs.Indexes.{index_told};
 
 use ac3::{Answer, SLOT_COUNTS};
-use apart::{HEADER_ANSWER, are_taken, header_numbers};
+pub use apart::HEADER_ANSWER;
+use apart::{are_taken, header_numbers};
+pub use packing::{PACKING_ANSWER, ferrysprig_pack, ferrysprig_unpack};
 use profile::numbers_of;
 use syntax::rows::shown;
 
@@ -117,12 +116,7 @@ fn numbers(a: Answer) -> [i32; ANSWER]
 }
 
 // Parses the frame at a place of a capture into the lent rows, and writes the answer's numbers.
-pub fn ferrysprig_parse(
-    capture: &[u8],
-    place: usize,
-    rows: &mut [i32],
-    answer: &mut [i32; ANSWER],
-)
+pub fn ferrysprig_parse(capture: &[u8], place: usize, rows: &mut [i32], answer: &mut [i32; ANSWER])
     ensures rows_after { (answer.new, rows.new) ≡ told (frame.answer capture.now place rows.old) }
     ensures promised_numbers { PromisedNumbers (call capture.now place rows.old) answer.new rows.new }
 {

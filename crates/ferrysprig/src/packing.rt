@@ -13,22 +13,14 @@ fn packing_numbers(a: packed::Answer) -> [usize; PACKING_ANSWER]
 }
 
 // Packs a listing's text into the front of `out`, and writes the answer's numbers.
-pub fn ferrysprig_pack(
-    listing: &[u8],
-    out: &mut [u8],
-    answer: &mut [usize; PACKING_ANSWER],
-)
+pub fn ferrysprig_pack(listing: &[u8], out: &mut [u8], answer: &mut [usize; PACKING_ANSWER])
     ensures { (answer.new, out.new) ≡ packing_told (packing listing.now out.old) }
 {
     *answer = packing_numbers(packed::pack(listing, out));
 }
 
 // Writes the text of a packed listing into the front of `out`, and then the answer's numbers.
-pub fn ferrysprig_unpack(
-    packed: &[u8],
-    out: &mut [u8],
-    answer: &mut [usize; PACKING_ANSWER],
-)
+pub fn ferrysprig_unpack(packed: &[u8], out: &mut [u8], answer: &mut [usize; PACKING_ANSWER])
     ensures { (answer.new, out.new) ≡ packing_told (unpacking packed.now out.old) }
 {
     *answer = packing_numbers(packed::unpack(packed, out));

@@ -29,7 +29,8 @@ ghost use Rattle.ferrysprig.specs.Salvages.{salvage_told};
 ghost use Rattle.ferrysprig.specs.Indexes.{index_told};
 
 use ferrysprig::{
-    ANSWER, BURST_ANSWER, HEADER_ANSWER, LEVEL_ANSWER, PACKING_ANSWER, PROFILE_ANSWER, SALVAGE_ANSWER,
+    ANSWER, BURST_ANSWER, HEADER_ANSWER, LEVEL_ANSWER, PACKING_ANSWER, PROFILE_ANSWER,
+    SALVAGE_ANSWER,
 };
 
 // Parses the frame at a place of a capture into the lent rows, and writes the answer's numbers.

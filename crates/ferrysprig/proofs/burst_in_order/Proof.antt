@@ -9,8 +9,8 @@ entries : tie.Need-returns
 unfolding burst_in_order
 entries c = refl
 
-pub burst-in-order-spec : {M : Type 1} → statement M
-burst-in-order-spec =
+pub burst_in_order_spec : {M : Type 1} → statement M
+burst_in_order_spec =
     tie.close
     (tie.spec
     (λ c. search rules)  -- cast-refusal

@@ -10,10 +10,10 @@ unfolding burst_numbers burst_in_order
 returns c =
     let n = c.before in
     let small = n.before.before.before in
-    n.numbers.ensures ∙ rw small.burst-in-order.ensures
+    n.numbers.ensures ∙ rw small.burst_in_order-small.ensures
 
-pub burst-numbers-spec : {M : Type 1} → statement M
-burst-numbers-spec =
+pub burst_numbers_spec : {M : Type 1} → statement M
+burst_numbers_spec =
     tie.close
     (tie.spec
     (λ c κs. search rules)  -- burst-in-order-requires

@@ -14,16 +14,16 @@ use Rattle.ferrysprig.proofs.HeaderAndBlocks.{few_afresh}
 use Rattle.ferrysprig.proofs.ferrysprig_blocks.Statement.{statement}
 use Rattle.ferrysprig.proofs.ferrysprig_blocks.Tie as tie
 
-few_own : tie.Need-are-taken-requires
+few_own : tie.Need-are_taken-fits-requires
 few_own c κs =
     let a = c.before.before.before.args in
-    omega (arith, ap (λ (x : HeaderAnswer). x.rows) (c.header-again.ensures a.rows.now refl), few_header_rows (call a.capture.now a.place a.rows.now))
+    omega (arith, ap (λ (x : HeaderAnswer). x.rows) (c.header_again-own.ensures a.rows.now refl), few_header_rows (call a.capture.now a.place a.rows.now))
 
 few : tie.Need-numbers-requires
 few c κs =
     let t1 = c.before in
     let a = t1.before.before.before.before.before.before.args in
-    few_afresh _ (call a.capture.now a.place a.rows.now) t1.afresh-if.ensures
+    few_afresh _ (call a.capture.now a.place a.rows.now) t1.afresh_if.ensures
 
 answers : tie.Need-returns
 answers c =
@@ -33,10 +33,10 @@ answers c =
     let a = t3.before.before.before.args in
     let k = call a.capture.now a.place a.rows.now in
     rw c.numbers.ensures
-    (ap told (t1.afresh-if.ensures ∙ ap (λ (b : Bool). afresh_if b k) (t2.are-taken.ensures ∙ ap (taken_by a.header.now) (t3.header-again.ensures a.rows.now refl))))
+    (ap told (t1.afresh_if.ensures ∙ ap (λ (b : Bool). afresh_if b k) (t2.are_taken-fits.ensures ∙ ap (taken_by a.header.now) (t3.header_again-own.ensures a.rows.now refl))))
 
-pub ferrysprig-blocks-spec : {M : Type 1} → statement M
-ferrysprig-blocks-spec =
+pub ferrysprig_blocks_spec : {M : Type 1} → statement M
+ferrysprig_blocks_spec =
     tie.close
     (tie.spec
     (λ c κs. search rules)  -- header-again-requires

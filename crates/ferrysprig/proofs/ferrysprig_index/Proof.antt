@@ -5,12 +5,12 @@ use Rattle.ferrysprig.specs.Indexes.{index_told}
 use Rattle.ferrysprig.proofs.ferrysprig_index.Statement.{statement}
 use Rattle.ferrysprig.proofs.ferrysprig_index.Tie as tie
 
-pub ferrysprig-index-spec : {M : Type 1} → statement M
-ferrysprig-index-spec =
+pub ferrysprig_index_spec : {M : Type 1} → statement M
+ferrysprig_index_spec =
     tie.close
     (tie.spec
     (λ c κs. search rules)  -- index-requires
     (λ c. search rules)  -- cast
     (λ c. search rules)  -- same-length
     (λ c. search rules)  -- same-length-2
-    (λ c. ap index_told c.before.before.before.before.before.index.ensures))  -- returns
+    (λ c. ap index_told c.before.before.before.before.before.index-told.ensures))  -- returns

@@ -20,8 +20,8 @@ answers c =
     let parse = c.before.before.parse.ensures in
     (rw c.numbers.ensures (ap told parse.0), promised_numbers parse.1.0 parse.1.1 c.numbers.ensures)
 
-pub ferrysprig-parse-spec : {M : Type 1} → statement M
-ferrysprig-parse-spec =
+pub ferrysprig_parse_spec : {M : Type 1} → statement M
+ferrysprig_parse_spec =
     tie.close
     (tie.spec
     (λ c κs. search rules)  -- parse-requires

@@ -11,7 +11,7 @@ use Rattle.ferrysprig.specs.Profiles.{profile_told}
 use Rattle.ferrysprig.proofs.ferrysprig_profile.Statement.{statement}
 use Rattle.ferrysprig.proofs.ferrysprig_profile.Tie as tie
 
-few : tie.Need-profile-numbers-requires
+few : tie.Need-profile_numbers-requires
 few c κs =
     let call = c.before in
     let a = call.before.before.before.args in (
@@ -19,11 +19,11 @@ few c κs =
       omega (arith, ap (λ (x : Answer × List ℤ). (numbers_of x.0.verdict).row) call.profile.ensures, row_few a.capture.now a.place a.rows.now),
     )
 
-pub ferrysprig-profile-spec : {M : Type 1} → statement M
-ferrysprig-profile-spec =
+pub ferrysprig_profile_spec : {M : Type 1} → statement M
+ferrysprig_profile_spec =
     tie.close
     (tie.spec
     (λ c κs. search rules)  -- profile-requires
     few  -- profile-numbers-requires
     (λ c. search rules)  -- same-length
-    (λ c. rw c.profile-numbers.ensures (ap profile_told c.before.before.profile.ensures)))  -- returns
+    (λ c. rw c.profile_numbers.ensures (ap profile_told c.before.before.profile.ensures)))  -- returns

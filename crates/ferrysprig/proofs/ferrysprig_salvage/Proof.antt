@@ -5,8 +5,8 @@ use Rattle.ferrysprig.specs.Salvages.{salvage_told}
 use Rattle.ferrysprig.proofs.ferrysprig_salvage.Statement.{statement}
 use Rattle.ferrysprig.proofs.ferrysprig_salvage.Tie as tie
 
-pub ferrysprig-salvage-spec : {M : Type 1} → statement M
-ferrysprig-salvage-spec =
+pub ferrysprig_salvage_spec : {M : Type 1} → statement M
+ferrysprig_salvage_spec =
     tie.close
     (tie.spec
     (λ c κs. search rules)  -- salvage-requires
@@ -14,4 +14,4 @@ ferrysprig-salvage-spec =
     (λ c. search rules)  -- same-length
     (λ c. search rules)  -- same-length-2
     (λ c. search rules)  -- same-length-3
-    (λ c. rw c.salvage-numbers.ensures (ap salvage_told c.before.before.before.before.before.before.salvage.ensures)))  -- returns
+    (λ c. rw c.salvage_numbers.ensures (ap salvage_told c.before.before.before.before.before.before.salvage.ensures)))  -- returns

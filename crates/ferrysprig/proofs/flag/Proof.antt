@@ -1,11 +1,10 @@
 -- `ferrysprig::flag` meets its contract: the flag says which of the two it is. Assumes nothing.
-use borrow.Author.Rules.{rules}
 use Rattle.ferrysprig.proofs.flag.Statement.{statement}
 use Rattle.ferrysprig.proofs.flag.Tie as tie
 
-pub flag-spec : {M : Type 1} → statement M
-flag-spec =
+pub flag_spec : {M : Type 1} → statement M
+flag_spec =
     tie.close
     (tie.spec
-    (λ c. rw c.if1.true)  -- returns
-    (λ c. rw c.if1.false))  -- returns-2
+    (λ c. rw c.if-b.true)  -- returns
+    (λ c. rw c.if-b.false))  -- returns-2

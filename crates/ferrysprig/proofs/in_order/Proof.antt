@@ -1,5 +1,4 @@
 -- `ferrysprig::in_order` meets its contract: each entry of the array is a number of the answer, and none is too large. Assumes nothing.
-use native.Mathlib.Omega.{arith}
 use borrow.Author.Rules.{rules}
 use Rattle.ferrysprig.specs.Numbers.{in_order}
 use Rattle.ferrysprig.proofs.in_order.Statement.{statement}
@@ -7,10 +6,10 @@ use Rattle.ferrysprig.proofs.in_order.Tie as tie
 
 entries : tie.Need-returns
 unfolding in_order
-entries c = rw (c.before.flag2.ensures, c.before.before.before.before.flag.ensures)
+entries c = rw (c.before.flag-2.ensures, c.before.before.before.before.flag.ensures)
 
-pub in-order-spec : {M : Type 1} → statement M
-in-order-spec =
+pub in_order_spec : {M : Type 1} → statement M
+in_order_spec =
     tie.close
     (tie.spec
     (λ c. search rules)  -- cast-refusal

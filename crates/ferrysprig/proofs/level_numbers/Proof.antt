@@ -14,8 +14,8 @@ returns c =
     let a = start.args.a in
     simp (to_z_pos w32 {n = a.refusal} (omega arith), to_z_pos w32 {n = a.rows} (omega (arith, start.requires)), to_z_pos w32 {n = a.changes} (omega (arith, start.requires)))
 
-pub level-numbers-spec : {M : Type 1} → statement M
-level-numbers-spec =
+pub level_numbers_spec : {M : Type 1} → statement M
+level_numbers_spec =
     tie.close
     (tie.spec
     (λ c. search rules)  -- cast-refusal

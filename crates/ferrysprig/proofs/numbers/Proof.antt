@@ -33,8 +33,8 @@ filled a {out} {b = b} written is block later long =
     ap (joined (set out 25 b)) (later ∙ ap (λ (l : List ℕ). sets (take slot_counts (drop 26 (set out 25 b))) 0 (map pos l)) (sym (entries a.summary.tally.bits slot_counts long)))
     ∙ ap (λ (l : List ℤ). joined l (sets (take slot_counts (drop 26 l)) 0 (bits_numbers a.summary))) front
 
-out_long : (c : tie.After-numbers) → length c.numbers.new.1.0 ≡ answer_width
-out_long c = ap length c.numbers.ensures ∙ length-sets (replicate answer_width (pos 0)) 0 (map pos c.before.before.before.in_order.result)
+out_long : (c : tie.After-numbers) → length c.numbers.new.run ≡ answer_width
+out_long c = ap length c.numbers.ensures ∙ length-sets (replicate answer_width (pos 0)) 0 (map pos c.before.before.before.in_order-small.result)
 
 returns : tie.Need-returns
 returns c =
@@ -43,10 +43,10 @@ returns c =
     let n = block.before.before in
     let small = n.before.before.before in
     let s = small.before in
-    filled s.args.a n.numbers.ensures small.in_order.ensures (to_z-of_z {w = w32} {z = block.shown.result} (search rules) ∙ block.shown.ensures) n2.numbers2.ensures s.requires.1
+    filled s.args.a n.numbers.ensures small.in_order-small.ensures (to_z-of_z {w = w32} {z = block.shown.result} (search rules) ∙ block.shown.ensures) n2.numbers-2.ensures s.requires.1
 
-pub numbers-spec : {M : Type 1} → statement M
-numbers-spec =
+pub numbers_spec : {M : Type 1} → statement M
+numbers_spec =
     tie.close
     (tie.spec
     (λ c κs. search rules)  -- in-order-requires

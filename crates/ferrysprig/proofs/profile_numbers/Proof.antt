@@ -10,10 +10,10 @@ unfolding profile_numbers profile_in_order
 returns c =
     let n = c.before in
     let small = n.before.before.before in
-    n.numbers.ensures ∙ rw small.profile-in-order.ensures
+    n.numbers.ensures ∙ rw small.profile_in_order-small.ensures
 
-pub profile-numbers-spec : {M : Type 1} → statement M
-profile-numbers-spec =
+pub profile_numbers_spec : {M : Type 1} → statement M
+profile_numbers_spec =
     tie.close
     (tie.spec
     (λ c κs. search rules)  -- profile-in-order-requires

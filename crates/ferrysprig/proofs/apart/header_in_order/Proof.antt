@@ -9,8 +9,8 @@ entries : tie.Need-returns
 unfolding header_in_order
 entries c = rw c.before.flag.ensures
 
-pub header-in-order-spec : {M : Type 1} → statement M
-header-in-order-spec =
+pub header_in_order_spec : {M : Type 1} → statement M
+header_in_order_spec =
     tie.close
     (tie.spec
     (λ c. search rules)  -- cast-refusal

@@ -24,10 +24,10 @@ returns : tie.Need-returns
 returns c =
     let n = c.before.before in
     let small = n.before.before.before in
-    rw (to_z-of_z {w = w32} {z = c.shown.result} (search rules), c.shown.ensures) (filled small.before.args.a n.numbers.ensures small.header-in-order.ensures)
+    rw (to_z-of_z {w = w32} {z = c.shown.result} (search rules), c.shown.ensures) (filled small.before.args.a n.numbers.ensures small.header_in_order-small.ensures)
 
-pub header-numbers-spec : {M : Type 1} → statement M
-header-numbers-spec =
+pub header_numbers_spec : {M : Type 1} → statement M
+header_numbers_spec =
     tie.close
     (tie.spec
     (λ c κs. search rules)  -- header-in-order-requires

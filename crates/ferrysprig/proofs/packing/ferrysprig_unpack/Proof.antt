@@ -5,11 +5,11 @@ use Rattle.ferrysprig.specs.Packings.{packing_told}
 use Rattle.ferrysprig.proofs.packing.ferrysprig_unpack.Statement.{statement}
 use Rattle.ferrysprig.proofs.packing.ferrysprig_unpack.Tie as tie
 
-pub ferrysprig-unpack-spec : {M : Type 1} → statement M
-ferrysprig-unpack-spec =
+pub ferrysprig_unpack_spec : {M : Type 1} → statement M
+ferrysprig_unpack_spec =
     tie.close
     (tie.spec
     (λ c κs. search rules)  -- unpack-requires
     (λ c κs. search rules)  -- packing-numbers-requires
     (λ c. search rules)  -- same-length
-    (λ c. rw c.packing-numbers.ensures (ap packing_told c.before.before.before.unpack.ensures)))  -- returns
+    (λ c. rw c.packing_numbers.ensures (ap packing_told c.before.before.before.unpack.ensures)))  -- returns

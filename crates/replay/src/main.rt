@@ -155,12 +155,7 @@ fn replay<R: Read>(reader: &mut R) -> io::Result<bool> {
     if read_full(reader, &mut said)? != SAID {
         return Ok(false);
     }
-    Ok(as_said(
-        &capture[..bytes],
-        sizes.place,
-        &mut room[..numbers],
-        &said,
-    ))
+    Ok(as_said(&capture[..bytes], sizes.place, &mut room[..numbers], &said))
 }
 
 // The number of cases, or 0 where the list does not begin as one.

@@ -6,18 +6,18 @@ use borrow.Author.Rules.{rules}
 use Rattle.replay.proofs.checksum.Statement.{statement}
 use Rattle.replay.proofs.checksum.Tie as tie
 
-abbrev invariant-loop : tie.invariant-loop
-invariant-loop room h₀ i₀ i-end h i = (i ≤ i-end) × (i-end ≡ length room)
+abbrev invariant-loop-i : tie.invariant-loop-i
+invariant-loop-i room h₀ i₀ i-end h i = (i ≤ i-end) × (i-end ≡ length room)
 
-abbrev decreases-loop : tie.decreases-loop
-decreases-loop room h₀ i₀ i-end h i = i-end - i
+abbrev decreases-loop-i : tie.decreases-loop-i
+decreases-loop-i room h₀ i₀ i-end h i = i-end - i
 
-pub checksum-spec : {M : Type 1} → statement M
-checksum-spec =
+pub checksum_spec : {M : Type 1} → statement M
+checksum_spec =
     tie.close
     (tie.spec
-    invariant-loop
-    decreases-loop
+    invariant-loop-i
+    decreases-loop-i
     (λ c. search rules)  -- loop_holds
     (λ c. search rules)  -- mul-with-number
     (λ c. search rules)  -- shared-slice-copy-out-with-number

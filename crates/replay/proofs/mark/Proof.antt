@@ -6,18 +6,18 @@ use borrow.Author.Rules.{rules}
 use Rattle.replay.proofs.mark.Statement.{statement}
 use Rattle.replay.proofs.mark.Tie as tie
 
-abbrev invariant-loop : tie.invariant-loop
-invariant-loop room₀ i₀ i-end room i = (i ≤ i-end) × (i-end ≡ length room)
+abbrev invariant-loop-i : tie.invariant-loop-i
+invariant-loop-i room₀ i₀ i-end room i = (i ≤ i-end) × (i-end ≡ length room)
 
-abbrev decreases-loop : tie.decreases-loop
-decreases-loop room₀ i₀ i-end room i = i-end - i
+abbrev decreases-loop-i : tie.decreases-loop-i
+decreases-loop-i room₀ i₀ i-end room i = i-end - i
 
 pub mark_spec : {M : Type 1} → statement M
 mark_spec =
     tie.close
     (tie.spec
-    invariant-loop
-    decreases-loop
+    invariant-loop-i
+    decreases-loop-i
     (λ c. search rules)  -- loop_holds
     (λ c. search rules)  -- add-room
     (λ c. search rules)  -- cast-room

@@ -5,18 +5,18 @@ use Rattle.ferrysprig.specs.Numbers.{answer_width}
 use Rattle.replay.proofs.same.Statement.{statement}
 use Rattle.replay.proofs.same.Tie as tie
 
-abbrev invariant-loop : tie.invariant-loop
-invariant-loop answer said i₀ i = i ≤ answer_width
+abbrev invariant-loop-i : tie.invariant-loop-i
+invariant-loop-i answer said i₀ i = i ≤ answer_width
 
-abbrev decreases-loop : tie.decreases-loop
-decreases-loop answer said i₀ i = answer_width - i
+abbrev decreases-loop-i : tie.decreases-loop-i
+decreases-loop-i answer said i₀ i = answer_width - i
 
 pub same_spec : {M : Type 1} → statement M
 same_spec =
     tie.close
     (tie.spec
-    invariant-loop
-    decreases-loop
+    invariant-loop-i
+    decreases-loop-i
     (λ c. search rules)  -- loop_holds
     (λ c. search rules)  -- mul-bits-of
     (λ c. search rules)  -- element-copy-out-bits-of

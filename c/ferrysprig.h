@@ -1,4 +1,4 @@
-/* Ferrysprig, the proved parser of AC-3 frames, for C and C++. Link target/staticlib/libferrysprig.a, which `rt staticlib ferrysprig`
+/* Ferrysprig, the proved parser of AC-3 frames, for C and C++. Link target/staticlib/libferrysprig.a, which `tools/archive ferrysprig`
    writes (for x86-64 Linux). docs/FORMAT.md says more of what the numbers mean, docs/NAMES.md of the names, docs/PROMISES.md what is
    proved.
 

@@ -1,4 +1,4 @@
-// The archive is built by `rt staticlib ferrysprig`, at the top of the repository.
+// The archive is built by `tools/archive ferrysprig`, at the top of the repository.
 fn main() {
     let top = concat!(env!("CARGO_MANIFEST_DIR"), "/../..");
     println!("cargo:rustc-link-search=native={top}/target/staticlib");

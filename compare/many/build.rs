@@ -1,4 +1,4 @@
-// The archive is built by `rt staticlib ferrysprig`, at the top of the repository; `run --own` names another folder, with that for the
+// The archive is built by `tools/archive ferrysprig`, at the top of the repository; `run --own` names another folder, with that for the
 // processor at hand.
 fn main() {
     let plain = concat!(env!("CARGO_MANIFEST_DIR"), "/../../target/staticlib");

@@ -175,9 +175,9 @@ fn numbers_are_those_of_the_header() {
     assert_eq!(LEAST_BYTES, number("FERRYSPRIG_LEAST_BYTES"));
     assert_eq!(burst::BYTES, number("FERRYSPRIG_BURST_BYTES"));
     let proved = text("crates/ac3/specs/RowBound.antt");
-    assert!(proved.contains(&format!("\nmostRows = {MOST_ROWS}\n")));
+    assert!(proved.contains(&format!("\nmost_rows = {MOST_ROWS}\n")));
     let of_headers = text("crates/ac3/specs/Apart.antt");
-    assert!(of_headers.contains(&format!("\nmostHeaderRows = {MOST_HEADER_ROWS}\n")));
+    assert!(of_headers.contains(&format!("\nmost_header_rows = {MOST_HEADER_ROWS}\n")));
     let version = env!("CARGO_PKG_VERSION");
     assert!(text("c/ferrysprig.h").contains(&format!("#define FERRYSPRIG_VERSION \"{version}\"\n")));
     let of_version = version

@@ -41,6 +41,6 @@ pub record SlotBits : Type 0 where
   -- channels that the frame does not have have 0 in every block, and so have LFE without lfeon, and coupling where no block uses it
   pub unused : (c : Call) → Accepted c → (blk : ℕ) → blk < 6
       → Unused (nfchans (summary_to c).header.acmod) (summary_to c).header.lfeon (not (eqb (summary_to c).tally.coupled 0)) (slots_of blk (bits_to c))
-  -- there are forty_two, whatever is answered, and a refusal's are all zeros
+  -- there are forty-two, whatever is answered, and a refusal's are all zeros
   pub long : (c : Call) → length (bits_to c) ≡ slot_counts
   pub none : (c : Call) → ¬ Accepted c → bits_to c ≡ replicate slot_counts 0

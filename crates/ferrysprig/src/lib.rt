@@ -1,4 +1,5 @@
-// The functions that Rust and C call. An exported function can take no enum and nothing that leads to one, so answers go as numbers.
+// The functions that Rust and C call: `ferrysprig_c` exports them. An exported function can take no enum and nothing that leads to one, so
+// answers go as numbers.
 #![tactic(auto)]
 
 mod apart;

@@ -1,4 +1,4 @@
--- `exponents::by_slot::slot_exponents_if` meets its contract: the test says which of the two `readIf` is. Assumes nothing.
+-- `exponents::by_slot::slot_exponents_if` meets its contract: the test says which of the two `read_if` is. Assumes nothing.
 use borrow.Author.Rules.{rules}
 use Rattle.syntax.proofs.Sequence.{finished}
 use Rattle.exponents.proofs.Kept.{all}

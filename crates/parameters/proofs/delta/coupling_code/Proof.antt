@@ -1,4 +1,4 @@
--- `parameters::delta::coupling_code` meets its contract: the test says which of the two `readIf` is. Assumes nothing.
+-- `parameters::delta::coupling_code` meets its contract: the test says which of the two `read_if` is. Assumes nothing.
 use borrow.Author.Rules.{rules}
 use Rattle.syntax.proofs.Sequence.{finished}
 use Rattle.parameters.proofs.delta.coupling_code.Statement.{statement}

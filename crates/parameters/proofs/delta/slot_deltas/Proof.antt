@@ -1,4 +1,4 @@
--- `parameters::delta::slot_deltas` meets its contract: the code says which of the two `readIf` is. Assumes nothing.
+-- `parameters::delta::slot_deltas` meets its contract: the code says which of the two `read_if` is. Assumes nothing.
 use borrow.Author.Rules.{rules}
 use borrow.Author.Tests.{eq-eqb, ne_eqb}
 use Rattle.syntax.proofs.Sequence.{then, finished}

@@ -1,4 +1,4 @@
--- `parameters::offsets::fine_offset_when` meets its contract: the flag says which of the two `readIf` is. Assumes nothing.
+-- `parameters::offsets::fine_offset_when` meets its contract: the flag says which of the two `read_if` is. Assumes nothing.
 use borrow.Author.Rules.{rules}
 use Rattle.syntax.proofs.Sequence.{finished}
 use Rattle.parameters.proofs.offsets.fine_offset_when.Statement.{statement}

@@ -24,8 +24,8 @@ extern "C" {
 #define FERRYSPRIG_VERSION "0.1.0"
 #define FERRYSPRIG_VERSION_NUMBER 100 /* 10,000 times the first part, 100 times the second, and the third */
 
-/* Bytes of stack that are enough for a call. (c/test.c measures it: ferrysprig_blocks takes some 14,200, any other call some 12,700, and
-   where the program finds memcpy and the others at their first use, the loader takes some 1,800 to 2,400 more, by processor.) */
+/* Bytes of stack that are enough for a call. (c/test.c measures it: the deepest call takes some 14,900, with what the loader takes
+   where the program finds memcpy and the others at their first use, which differs by processor.) */
 #define FERRYSPRIG_STACK_BYTES 20480
 
 /* Bytes that no frame exceeds, and those that every frame has. */

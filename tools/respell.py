@@ -39,7 +39,6 @@ def declared(texts):
     """The names to turn, each with its new spelling."""
     found = {}
     for path in texts:
-        own = os.path.basename(path) == "Proof.antt"
         for m in DECLARED.finditer(read(path)):
             name = m[1]
             if name in NOT_NAMES | KIT or name[:1].isupper() or MADE.match(name) or not re.match(r"[a-z]", name):
@@ -111,7 +110,6 @@ def turned(text, names):
 def main():
     check = "--check" in sys.argv
     texts, sources, edits = files()
-    changed = 0
     for path in texts:
         text = read(path)
         new = text

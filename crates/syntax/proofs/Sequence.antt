@@ -1,5 +1,5 @@
--- The laws by which a function that calls readers one after the other is proved equal to its grammar: a chain with a
--- `then` for each call, ended by `finished`, or by `stopped` where the code leaves early. Assumes nothing.
+-- The laws by which a function that calls readers one after the other is proved equal to its grammar: a chain with a `then` for each call that
+-- went well, ended by `finished`, or by `stops` where a call was refused. Assumes nothing.
 use Prim.Native.Nat.{ℕ, suc, ◌+◌, ◌-◌, ◌*◌, ◌<◌, ◌≤◌}
 use native.Mathlib.Omega.{arith}
 use mathlib.Core.Path.{◌≡◌, refl, sym, ap, ◌∙◌}
@@ -7,67 +7,64 @@ use mathlib.Core.Bool.{Bool, true, false, cond}
 use mathlib.Core.List.{List}
 use lib.IntN.{ℤ}
 use lib.ListN.{length}
-use lib.Dec.{eqb}
-use borrow.Author.Tests.{eq-eqb, ne_eqb, eqb-true, eqb-false, lt-ltb, le-ltb}
+use borrow.Author.Tests.{lt-ltb, le-ltb}
+use Rattle.std.specs.Prelude.{Result, Ok, Err, IsErrAnd}
+use Rattle.std.proofs.lemmas.Result.{err_from_is_err_and}
 use Rattle.bits.specs.Bits.{value}
 use Rattle.syntax.specs.declared.Cursor.{Cursor}
 use Rattle.syntax.specs.declared.Item.{Item}
 use Rattle.syntax.specs.declared.Refusal.{Refusal}
-use Rattle.syntax.specs.Grammar.{Grammar, done, field, ◌>>=◌, take, note, pass, framed, position, refuse_if, turns, for}
+use Rattle.syntax.specs.Grammar.{Grammar, done, field, free, span, ◌>>=◌, note, pass, framed, position, refuse_if, turns, for}
 use Rattle.syntax.specs.Run.{Check, clear, stop}
-use Rattle.syntax.specs.Place.{Place, Outcome, got, no, and_then, except, exec}
-use Rattle.syntax.specs.Reads.{Goes, Unmoved, halted, place, from, seen, runs, recorded, Writes, Reads, Judged}
+use Rattle.syntax.specs.Place.{Place, got, and_then, except, exec}
+use Rattle.syntax.specs.Reads.{place, outcome, recorded, Writes, Reads}
 use Rattle.syntax.proofs.Bind.{exec_bind}
-use Rattle.syntax.proofs.Going.{goes_before}
 
--- going on from a cursor, and then from what it gave
-from_then : {A B : Type 0} (c : Cursor) (room : List ℤ) (o : Place → Outcome A) (next : A → Place → Outcome B) {r : Place → Outcome B}
-    → ((p : Place) → r p ≡ and_then (o p) next) → from c room r ≡ and_then (from c room o) next
-unfolding from and_then
-from_then c room o next {r} e = go (eqb c.stop.number 0)
-  where
-    go : (b : Bool) → let p = place c room in cond b (r p) (no c.stop p) ≡ and_then (cond b (o p) (no c.stop p)) next
-    go true = e (place c room)
-    go false = refl
-
--- the law of sequence, from a cursor on
-runs_bind : {A B : Type 0} (f : A → Grammar B) (s : List ℕ) (g : Grammar A) (c : Cursor) (room : List ℤ)
-    → runs (g >>= f) s c room ≡ and_then (runs g s c room) (λ a q. exec (f a) s q)
-runs_bind f s g c room = from_then c room (exec g s) (λ a q. exec (f a) s q) (exec_bind f s g)
-
--- what is left after an answer, from where the code stands
-seen_resumed : {A B : Type 0} (a : A) (f : A → Place → Outcome B) (c : Cursor) (room : List ℤ) → and_then (seen a c room) f ≡ from c room (f a)
-unfolding and_then
-seen_resumed a f c room = sym (from_then c room (got a) f (λ p. refl))
-
-module _ {A B : Type 0} {g : Grammar A} (f : A → Grammar B) {s : List ℕ} {c d : Cursor} {before mid : List ℤ} {a : A} (h : Reads g s c before a d mid) where
-  -- a reader of g leaves what is after g to run from where it stands
-  rest : runs (g >>= f) s c before ≡ runs (f a) s d mid
-  rest = runs_bind f s g c before ∙ ap (λ o. and_then o (λ v q. exec (f v) s q)) (sym h.same) ∙ seen_resumed a (λ v q. exec (f v) s q) d mid
-
+module _ {A B : Type 0} {g : Grammar A} (f : A → Grammar B) {s : List ℕ} {c d : Cursor} {before mid : List ℤ} where
   -- a reader of g, and then a reader of what is left
-  pub then : {b : B} {e : Cursor} {after : List ℤ} → Reads (f a) s d mid b e after → Reads (g >>= f) s c before b e after
-  then {e = e} r = record { same = r.same ∙ sym rest; long = r.long ∙ h.long; unmoved = λ g. r.unmoved g ∙ h.unmoved (goes_before d e r.unmoved g) }
+  pub then : {a : A} {r : Result B Refusal} {e : Cursor} {after : List ℤ} → Reads g s c before (Ok a) d mid → Reads (f a) s d mid r e after
+      → Reads (g >>= f) s c before r e after
+  unfolding and_then
+  then h r =
+      record {
+        same = r.same ∙ ap (λ o. and_then o (λ v q. exec (f v) s q)) h.same ∙ sym (exec_bind f s g (place c before));
+        long = r.long ∙ h.long;
+      }
 
-module _ {A : Type 0} {a : A} {s : List ℕ} {c : Cursor} {room : List ℤ} where
-  -- nothing is left
-  pub finished : Reads (done a) s c room a c room
-  unfolding from exec
-  finished = record { same = refl; long = refl; unmoved = λ _. refl }
+  -- a reader of g that was refused: what is left is not read
+  pub stops : {x : Refusal} → Reads g s c before (Err x) d mid → Reads (g >>= f) s c before (Err x) d mid
+  unfolding and_then
+  stops h =
+      record { same = ap (λ o. and_then o (λ v q. exec (f v) s q)) h.same ∙ sym (exec_bind f s g (place c before)); long = h.long }
 
-  -- a cursor that stopped stays, whatever is left
-  pub stopped : {g : Grammar A} → ¬ Goes c → Reads g s c room a c room
-  unfolding from
-  stopped h = record { same = rw (ne_eqb c.stop.number 0 h); long = refl; unmoved = λ _. refl }
+-- nothing is left
+pub finished : {A : Type 0} {a : A} {s : List ℕ} {c : Cursor} {room : List ℤ} → Reads (done a) s c room (Ok a) c room
+unfolding exec
+finished = record { same = refl; long = refl }
 
--- ---- a loop: its invariant, and the law of each of its three needs
+-- an element that a constructor made is the grammar's
+module _ {A : Type 0} {i j : Item} {w : ℕ} {s : List ℕ} {c d : Cursor} {before after : List ℤ} (e : i ≡ j) where
+  pub took : {k : ℕ → Grammar A} {r : Result A Refusal} → Reads (field i w k) s c before r d after → Reads (field j w k) s c before r d after
+  took r = rw (← e) r
+
+  pub noticed : {k : Grammar A} {r : Result A Refusal} → Reads (free i w k) s c before r d after → Reads (free j w k) s c before r d after
+  noticed r = rw (← e) r
+
+  pub spanned : {k : Grammar A} {r : Result A Refusal} → Reads (span i w k) s c before r d after → Reads (span j w k) s c before r d after
+  spanned r = rw (← e) r
+
+-- what `?` hands on is the refusal that it was given
+pub refused : {A : Type 0} {g : Grammar A} {s : List ℕ} {c d : Cursor} {before after : List ℤ} {r : Result A Refusal} {x : Refusal}
+    → IsErrAnd r (λ y. y ≡ x) → Reads g s c before (Err x) d after → Reads g s c before r d after
+refused {r = r} h q = let p = err_from_is_err_and r h in rw (p.1, p.2) q
+
+-- ---- a loop: its invariant, and the law of each of its needs
 
 -- at number i, what is left to run is the loop from i on
 pub record Turns {A : Type 0} (body : ℕ → A → Grammar A) (first last : ℕ) (a₀ : A) (s : List ℕ) (c₀ : Cursor) (room₀ : List ℤ)
     (i : ℕ) (a : A) (c : Cursor) (room : List ℤ) : Type 0 where
-  pub left : runs (for i last a body) s c room ≡ runs (for first last a₀ body) s c₀ room₀
+  pub left : exec (for i last a body) s (place c room) ≡ exec (for first last a₀ body) s (place c₀ room₀)
   pub long : length room ≡ length room₀
-  pub unmoved : Unmoved c₀ c
 
 one_more : {A : Type 0} (body : ℕ → A → Grammar A) (i m : ℕ) (a : A) → turns i (suc m) a body ≡ (body i a >>= λ next. turns (i + 1) m next body)
 unfolding turns
@@ -79,73 +76,63 @@ none_left body i a = refl
 
 module _ {A : Type 0} {body : ℕ → A → Grammar A} {first last : ℕ} {a : A} {s : List ℕ} {c : Cursor} {room : List ℤ} where
   pub begins : Turns body first last a s c room first a c room
-  begins = record { left = refl; long = refl; unmoved = λ _. refl }
+  begins = record { left = refl; long = refl }
 
   module _ {i : ℕ} {b : A} {d : Cursor} {now : List ℤ} (t : Turns body first last a s c room i b d now) where
-    pub turn : {b' : A} {e : Cursor} {then : List ℤ} → i < last → Reads (body i b) s d now b' e then → Turns body first last a s c room (i + 1) b' e then
-    turn {e = e} h r =
+    abbrev rest : ℕ → A → Grammar A
+    rest n next = turns (i + 1) n next body
+
+    pub turn : {b' : A} {e : Cursor} {then : List ℤ} → i < last → Reads (body i b) s d now (Ok b') e then → Turns body first last a s c room (i + 1) b' e then
+    unfolding and_then
+    turn {e = e} {then = l} h r =
         let m : last - i ≡ suc (last - (i + 1)) = omega arith in
+        let f = rest (last - (i + 1)) in
+        let run : exec (body i b >>= f) s (place d now) ≡ exec (for first last a body) s (place c room) = rw (m, one_more body i (last - (i + 1)) b) at t.left in
         record {
-          left = sym (rest (λ next. turns (i + 1) (last - (i + 1)) next body) r) ∙ (rw (m, one_more body i (last - (i + 1)) b) at t.left);
+          left = ap (λ o. and_then o (λ v q. exec (f v) s q)) r.same ∙ sym (exec_bind f s (body i b) (place d now)) ∙ run;
           long = r.long ∙ t.long;
-          unmoved = λ g. r.unmoved g ∙ t.unmoved (goes_before d e r.unmoved g);
         }
 
-    pub ends : last ≤ i → Reads (for first last a body) s c room b d now
+    -- a turn that was refused: the turns that are left are not read
+    pub leaves : {x : Refusal} {e : Cursor} {then : List ℤ} → i < last → Reads (body i b) s d now (Err x) e then → Reads (for first last a body) s c room (Err x) e then
+    leaves h r =
+        let m : last - i ≡ suc (last - (i + 1)) = omega arith in
+        let run : exec (body i b >>= rest (last - (i + 1))) s (place d now) ≡ exec (for first last a body) s (place c room) = rw (m, one_more body i (last - (i + 1)) b) at t.left in
+        let out = stops (rest (last - (i + 1))) r in
+        record { same = out.same ∙ run; long = out.long ∙ t.long }
+
+    pub ends : last ≤ i → Reads (for first last a body) s c room (Ok b) d now
+    unfolding exec
     ends h =
         let m : last - i ≡ 0 = omega arith in
-        let done-is : seen b d now ≡ runs (done b) s d now = finished.same in
-        record { same = done-is ∙ (rw (m, none_left body i b) at t.left); long = t.long; unmoved = t.unmoved }
+        record { same = rw (m, none_left body i b) at t.left; long = t.long }
 
--- where reading stopped in a loop, the turns that are left change nothing
-pub leaves : {A : Type 0} {body : ℕ → A → Grammar A} {first last : ℕ} {a : A} {s : List ℕ} {c : Cursor} {room : List ℤ}
-    {i : ℕ} {b : A} {d : Cursor} {now : List ℤ}
-    → Turns body first last a s c room i b d now → ¬ Goes d → Reads (for first last a body) s c room b d now
-leaves {body = body} {last = last} {s = s} {i = i} {b = b} {d = d} {now = now} t h =
-    let stays : Reads (for i last b body) s d now b d now = stopped h in
-    record { same = stays.same ∙ t.left; long = t.long; unmoved = t.unmoved }
+-- ---- a judge
 
--- ---- the three ways through a judge
-
-module _ {bad : Bool} {x : Refusal} {c : Cursor} where
-  pub judged_stopped : ¬ Goes c → Judged bad x c c
-  judged_stopped h = record { reads = λ s room. stopped h; passed = λ e. absurd (h e) }
-
-  pub judged_good : bad ≡ false → Judged bad x c c
-  judged_good e = record { reads = λ s room. rw e finished; passed = λ _. e }
-
-  pub judged_bad : 0 < x.number → Goes c → bad ≡ true → Judged bad x c (halted x c)
-  unfolding from exec
-  judged_bad h e f =
-      let sick : x.number ≡ 0 → ⊥ = omega arith in
-      record {
-        reads = λ s room. record { same = simp (f, eq-eqb c.stop.number 0 e, ne_eqb x.number 0 sick); long = refl; unmoved = λ z. absurd (sick z) };
-        passed = λ z. absurd (sick z);
-      }
-
--- a judge of a test reads `refuse_if` of what the test is
-pub judged : {bad test : Bool} {x : Refusal} {c d : Cursor} {s : List ℕ} {room : List ℤ}
-    → Judged bad x c d → bad ≡ test → Reads (refuse_if test x) s c room tt d room
-judged {s = s} {room = room} h e = rw (← e) (h.reads s room)
+pub judged : (bad : Bool) (x : Refusal) {r : Result (Unit {0}) Refusal} {s : List ℕ} {c : Cursor} {room : List ℤ} → r ≡ cond bad (Err x) (Ok tt) → Reads (refuse_if bad x) s c room r c room
+unfolding exec
+judged bad x {s = s} {c = c} {room = room} e = rw e (go bad)
+  where
+    go : (b : Bool) → Reads (refuse_if b x) s c room (cond b (Err x) (Ok tt)) c room
+    go true = record { same = refl; long = refl }
+    go false = record { same = refl; long = refl }
 
 -- ---- the start of a frame
 
 module _ {x : Refusal} {n : ℕ} {s : List ℕ} {c : Cursor} {room : List ℤ} where
-  pub framed_short : 0 < x.number → Goes c → length s < n → Reads (framed x n) s c room tt (halted x c) room
-  unfolding from exec except
-  framed_short h e short =
-      let sick : x.number ≡ 0 → ⊥ = omega arith in
-      record { same = simp (eq-eqb c.stop.number 0 e, ne_eqb x.number 0 sick, lt-ltb (length s) n short); long = refl; unmoved = λ z. absurd (sick z) }
+  pub framed_short : length s < n → Reads (framed x n) s c room (Err x) c room
+  unfolding exec except
+  framed_short short = record { same = simp (lt-ltb (length s) n short); long = refl }
 
-  pub framed_whole : Goes c → n ≤ length s → Reads (framed x n) s c room tt (record { at = c.at; limit = n * 8; count = c.count; stop = c.stop }) room
-  unfolding from exec except
-  framed_whole e whole = record { same = simp (eq-eqb c.stop.number 0 e, le-ltb (length s) n whole); long = refl; unmoved = λ _. refl }
+  pub framed_whole : n ≤ length s → Reads (framed x n) s c room (Ok tt) (record { at = c.at; limit = n * 8; count = c.count }) room
+  unfolding exec except
+  framed_whole whole = record { same = simp (le-ltb (length s) n whole); long = refl }
 
 -- ---- the bit reached
 
-pub standing : {s : List ℕ} {c : Cursor} {room : List ℤ} → Reads position s c room c.at c room
-unfolding from exec
-standing = record { same = refl; long = refl; unmoved = λ _. refl }
+pub standing : {s : List ℕ} {c : Cursor} {room : List ℤ} → Reads position s c room (Ok c.at) c room
+unfolding exec
+standing = record { same = refl; long = refl }
 
 -- ---- one element: a value that is kept, one that is dropped, a span
 
@@ -154,43 +141,34 @@ unfolding except and_then
 except_then a clear p q = refl
 except_then a (stop why bit) p q = refl
 
-module _ {i : Item} {w v : ℕ} {s : List ℕ} {c d : Cursor} {before after : List ℤ} (h : Writes (recorded i w v) c before d after) (l : length after ≡ length before) where
+module _ {i : Item} {w v : ℕ} {s : List ℕ} {c d : Cursor} {before after : List ℤ} where
   -- what is made of the value
-  pub made : {A : Type 0} (f : ℕ → A) → v ≡ value s c.at w → Reads (field i w (λ u. done (f u))) s c before (f v) d after
-  unfolding from exec
-  made f e =
-      record {
-        same = rw (← e) (sym (seen_resumed tt (λ _ q. got (f v) q) d after) ∙ ap (λ o. and_then o (λ _ q. got (f v) q)) h.same
-            ∙ sym (from_then c before (recorded i w v) (λ _ q. got (f v) q) (λ p. except_then (f v) _ p _)));
-        long = l;
-        unmoved = h.unmoved;
-      }
+  pub made : {A : Type 0} (f : ℕ → A) → Writes (recorded i w v) c before (Ok tt) d after → length after ≡ length before → v ≡ value s c.at w
+      → Reads (field i w (λ u. done (f u))) s c before (Ok (f v)) d after
+  unfolding exec and_then
+  made f h l e = record { same = rw (← e) (ap (λ o. and_then o (λ _ q. got (f v) q)) h.same ∙ sym (except_then (f v) _ (place c before) _)); long = l }
 
-  pub taken : v ≡ value s c.at w → Reads (take i w) s c before v d after
-  taken = made (λ u. u)
+  pub unmade : {A : Type 0} (f : ℕ → A) {x : Refusal} → Writes (recorded i w v) c before (Err x) d after → length after ≡ length before → v ≡ value s c.at w
+      → Reads (field i w (λ u. done (f u))) s c before (Err x) d after
+  unfolding exec and_then
+  unmade f h l e = record { same = rw (← e) (ap (λ o. and_then o (λ _ q. got (f v) q)) h.same ∙ sym (except_then (f v) _ (place c before) _)); long = l }
 
-  pub noted : v ≡ value s c.at w → Reads (note i w) s c before tt d after
-  unfolding from exec
-  noted e = record { same = rw (← e) h.same; long = l; unmoved = h.unmoved }
+  pub noted : {r : Result (Unit {0}) Refusal} → Writes (recorded i w v) c before r d after → length after ≡ length before → v ≡ value s c.at w → Reads (note i w) s c before r d after
+  unfolding exec
+  noted h l e = record { same = rw (← e) h.same; long = l }
 
-  pub passed : v ≡ 0 → Reads (pass i w) s c before tt d after
-  unfolding from exec
-  passed e = record { same = rw e at h.same; long = l; unmoved = h.unmoved }
+  pub passed : {r : Result (Unit {0}) Refusal} → Writes (recorded i w v) c before r d after → length after ≡ length before → v ≡ 0 → Reads (pass i w) s c before r d after
+  unfolding exec
+  passed h l e = record { same = rw e at h.same; long = l }
 
--- ---- what is promised is one answer: two from one cursor that are seen as the same outcome agree on all but a refused answer's value
+-- ---- what is promised is one answer: two results that are seen as the same outcome are one, at one place
 
-pub record Agree {A : Type 0} (a : A) (c : Cursor) (r : List ℤ) (b : A) (d : Cursor) (q : List ℤ) : Type 0 where
+pub record Agree {A : Type 0} (a : Result A Refusal) (c : Cursor) (r : List ℤ) (b : Result A Refusal) (d : Cursor) (q : List ℤ) : Type 0 where
   pub placed : place c r ≡ place d q
-  pub ended : c.stop ≡ d.stop
-  pub answered : Goes c → a ≡ b
+  pub answered : a ≡ b
 
-pub agreed : {A : Type 0} (a b : A) (z c d : Cursor) (r q : List ℤ) → Unmoved z c → Unmoved z d → seen a c r ≡ seen b d q → Agree a c r b d q
-unfolding from
-agreed a b z c d r q u v = go (eqb c.stop.number 0) (eqb d.stop.number 0) refl refl
-  where
-    go : (x y : Bool) → eqb c.stop.number 0 ≡ x → eqb d.stop.number 0 ≡ y
-        → cond x (got a (place c r)) (no c.stop (place c r)) ≡ cond y (got b (place d q)) (no d.stop (place d q)) → Agree a c r b d q
-    go true true e f h = record { placed = cc; ended = u (eqb-true _ _ e) ∙ sym (v (eqb-true _ _ f)); answered = λ _. cc }
-    go true false e f h = let n : ◌≡◌ {A = ℕ} 0 1 = cc in record { placed = absurd (omega arith); ended = absurd (omega arith); answered = λ _. absurd (omega arith) }
-    go false true e f h = let n : ◌≡◌ {A = ℕ} 0 1 = cc in record { placed = absurd (omega arith); ended = absurd (omega arith); answered = λ _. absurd (omega arith) }
-    go false false e f h = record { placed = cc; ended = cc; answered = λ g. absurd (eqb-false _ _ e g) }
+pub agreed : {A : Type 0} (a b : Result A Refusal) (c d : Cursor) (r q : List ℤ) → outcome a (place c r) ≡ outcome b (place d q) → Agree a c r b d q
+agreed (Ok a) (Ok b) c d r q e = record { placed = cc; answered = cc }
+agreed (Ok a) (Err y) c d r q e = let z : ◌≡◌ {A = ℕ} 0 1 = cc in record { placed = absurd (omega arith); answered = absurd (omega arith) }
+agreed (Err x) (Ok b) c d r q e = let z : ◌≡◌ {A = ℕ} 0 1 = cc in record { placed = absurd (omega arith); answered = absurd (omega arith) }
+agreed (Err x) (Err y) c d r q e = record { placed = cc; answered = cc }

@@ -11,7 +11,7 @@ use borrow.Author.Tests.{ltb-true, eqb-true, eqb-false}
 use Rattle.bits.specs.Bits.{value}
 use Rattle.syntax.specs.declared.Item.{Item}
 use Rattle.syntax.specs.declared.Refusal.{Refusal}
-use Rattle.syntax.specs.Refusals.{past, full}
+use Rattle.syntax.specs.Refusals.{past, full, name, block, number}
 use Rattle.syntax.specs.Grammar.{Grammar}
 use Rattle.syntax.specs.Run.{Row, Spot, End, refused, Result, Check, clear, stop, room_check, check, row_check, walk_check, frame_check, sum, unless, run, ◌after◌, ended, beyond, within}
 use Rattle.syntax.specs.Unlimited.{read}
@@ -19,8 +19,8 @@ use Rattle.syntax.specs.Unfitting.{Next, Neither, Unfitting, is_judged, Judges, 
 
 -- what is to be shown, of any run
 record Tells {A : Type 0} (unlimited : List Row) (r : Result A) (x : Refusal) : Type 0 where
-  pub next : x.number ≡ 6 → Next unlimited r x
-  pub others : ¬ (x.number ≡ 6) → Neither x.name x.block
+  pub next : number x ≡ 6 → Next unlimited r x
+  pub others : ¬ (number x ≡ 6) → Neither (name x) (block x)
 
 -- ---- checks
 
@@ -69,19 +69,19 @@ module _ {A : Type 0} (x : Refusal) where
   judged_tells : (unlimited : List Row) (p : Spot) (y : Refusal) → T (is_judged y) → ◌≡◌ {A = End A} (refused y) (refused x) → Tells unlimited (ended {A = A} p (refused y)) x
   judged_tells unlimited p y t e =
       subst (Tells unlimited (ended {A = A} p (refused y))) same
-      (record { next = λ six. absurd (other six); others = λ _. (eqb-true y.name 0 nothing.0, eqb-true y.block 255 nothing.1) })
+      (record { next = λ six. absurd (other six); others = λ _. (eqb-true (name y) 0 nothing.0, eqb-true (block y) 255 nothing.1) })
     where
       same : y ≡ x
       same = cc
 
-      two : (not (eqb y.number 6) ≡ true) × ((eqb y.name 0 && eqb y.block 255) ≡ true)
-      two = both (not (eqb y.number 6)) (eqb y.name 0 && eqb y.block 255) t
+      two : (not (eqb (number y) 6) ≡ true) × ((eqb (name y) 0 && eqb (block y) 255) ≡ true)
+      two = both (not (eqb (number y) 6)) (eqb (name y) 0 && eqb (block y) 255) t
 
-      nothing : (eqb y.name 0 ≡ true) × (eqb y.block 255 ≡ true)
-      nothing = both (eqb y.name 0) (eqb y.block 255) (subst T (sym two.1) tt)
+      nothing : (eqb (name y) 0 ≡ true) × (eqb (block y) 255 ≡ true)
+      nothing = both (eqb (name y) 0) (eqb (block y) 255) (subst T (sym two.1) tt)
 
-      other : ¬ (y.number ≡ 6)
-      other = eqb-false y.number 6 (not-false (eqb y.number 6) two.0)
+      other : ¬ (number y ≡ 6)
+      other = eqb-false (number y) 6 (not-false (eqb (number y) 6) two.0)
 
   row_tells : (c : Check) (p : Spot) (row : Row) (rest : List Row) (r : Result A) → Says row.item p.limit (row.at + row.width) c
       → (r.end ≡ refused x → Tells rest r x)
@@ -104,14 +104,14 @@ module _ {A : Type 0} (x : Refusal) where
       go (inl (is, far)) =
           let at_row : x ≡ past row.item = sym same ∙ is in
           record {
-            next = λ six. record { row = row; later = rest; goes_on = refl; past = far; name = ap (λ z. z.name) at_row; block = ap (λ z. z.block) at_row };
-            others = λ other. absurd (other (ap (λ z. z.number) at_row));
+            next = λ six. record { row = row; later = rest; goes_on = refl; past = far; name = ap (λ z. name z) at_row; block = ap (λ z. block z) at_row };
+            others = λ other. absurd (other (ap (λ z. (number z)) at_row));
           }
       go (inr is) =
           let no_room : x ≡ full = sym same ∙ is in
           record {
-            next = λ six. let z : x.number ≡ 7 = ap (λ z. z.number) no_room in absurd (omega arith);
-            others = λ _. (ap (λ z. z.name) no_room, ap (λ z. z.block) no_room);
+            next = λ six. let z : number x ≡ 7 = ap (λ z. (number z)) no_room in absurd (omega arith);
+            others = λ _. (ap (λ z. name z) no_room, ap (λ z. block z) no_room);
           }
 
   frame_tells : (p : Spot) (y : Refusal) (n : ℕ) (unlimited : List Row) (r : Result A) → T (is_judged y) → (r.end ≡ refused x → Tells unlimited r x)

@@ -4,6 +4,7 @@ use Rattle.std.specs.Prelude.{Bool, not, List, ◌++◌, ◌⊎◌, ◌≡◌, �
 use Rattle.bits.specs.Bits.{bit_at, value}
 use Rattle.syntax.specs.declared.Item.{Item}
 use Rattle.syntax.specs.declared.Refusal.{Refusal}
+use Rattle.syntax.specs.Refusals.{number}
 use Rattle.syntax.specs.Grammar.{Grammar, done, refuse, field, free, span, walk, frame, here}
 use Rattle.syntax.specs.Run.{Spot, End, reached, refused, Result, Check, clear, stop, row_check, walk_check, sum, beyond, within, start, parse, rows_of, end_of}
 use Rattle.syntax.specs.Numbers.{row_width}
@@ -59,21 +60,21 @@ Appending g = (s more : List ℕ) (m : ℕ) → ¬ TooShort g s (start (length s
 -- this many bytes is too short.
 pub data ShortBy {A : Type 0} (short : ℕ → Bool) (most : ℕ) : Grammar A → Type 0 where
   s_done : {a : A} → ShortBy short most (done a)
-  s_refuse : {x : Refusal} → T (not (short x.number)) → ShortBy short most (refuse x)
+  s_refuse : {x : Refusal} → T (not (short (number x))) → ShortBy short most (refuse x)
   s_field : {i : Item} {w : ℕ} {k : ℕ → Grammar A} → ((v : ℕ) → ShortBy short most (k v)) → ShortBy short most (field i w k)
   s_free : {i : Item} {w : ℕ} {k : Grammar A} → ShortBy short most k → ShortBy short most (free i w k)
   s_span : {i : Item} {w : ℕ} {k : Grammar A} → ShortBy short most k → ShortBy short most (span i w k)
   s_walk : {i : Item} {ws : List ℕ} {k : Grammar A} → ShortBy short most k → ShortBy short most (walk i ws k)
-  s_frame : {x : Refusal} {n : ℕ} {k : Grammar A} → T (short x.number) → n ≤ most → ShortBy short most k → ShortBy short most (frame x n k)
+  s_frame : {x : Refusal} {n : ℕ} {k : Grammar A} → T (short (number x)) → n ≤ most → ShortBy short most k → ShortBy short most (frame x n k)
   s_here : {k : ℕ → Grammar A} → ((at : ℕ) → ShortBy short most (k at)) → ShortBy short most (here k)
 
 abbrev pub EndsShort : {A : Type 0} → (ℕ → Bool) → End A → Type 0
 EndsShort short (reached a) = ⊥
-EndsShort short (refused x) = T (short x.number)
+EndsShort short (refused x) = T (short (number x))
 
 abbrev pub StopsShort : {A : Type 0} → (ℕ → Bool) → Outcome A → Type 0
 StopsShort short (got a p) = ⊥
-StopsShort short (no x p) = T (short x.number)
+StopsShort short (no x p) = T (short (number x))
 
 module _ {A : Type 0} (short : ℕ → Bool) (most : ℕ) (g : Grammar A) where
   pub record AppendingByNumber : Type 0 where

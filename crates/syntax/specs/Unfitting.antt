@@ -3,6 +3,7 @@
 use Rattle.std.specs.Prelude.{Bool, ◌&&◌, not, List, ◌∷◌, ◌++◌, ◌≡◌, ℕ, ◌+◌, ◌<◌, T, eqb}
 use Rattle.syntax.specs.declared.Item.{Item}
 use Rattle.syntax.specs.declared.Refusal.{Refusal}
+use Rattle.syntax.specs.Refusals.{name, block, number}
 use Rattle.syntax.specs.Grammar.{Grammar, done, refuse, field, free, span, walk, frame, here}
 use Rattle.syntax.specs.Run.{Row, refused, Result, parse}
 use Rattle.syntax.specs.Unlimited.{read}
@@ -14,8 +15,8 @@ pub record Next {A : Type 0} (unlimited : List Row) (r : Result A) (x : Refusal)
   pub later : List Row
   pub goes_on : unlimited ≡ r.rows ++ row ∷ later
   pub past : r.spot.limit < row.at + row.width
-  pub name : x.name ≡ row.item.name
-  pub block : x.block ≡ row.item.block
+  pub name : name x ≡ row.item.name
+  pub block : block x ≡ row.item.block
 
 -- neither a name nor a block is told
 abbrev pub Neither : (name block : ℕ) → Type 0
@@ -23,14 +24,14 @@ Neither name block = (name ≡ 0) × (block ≡ 255)
 
 module _ {A : Type 0} (g : Grammar A) where
   pub record Unfitting : Type 0 where
-    pub next : (s : List ℕ) (room : ℕ) (x : Refusal) → (parse g s room).end ≡ refused x → x.number ≡ 6 → Next (read g s 0).rows (parse g s room) x
-    pub others : (s : List ℕ) (room : ℕ) (x : Refusal) → (parse g s room).end ≡ refused x → ¬ (x.number ≡ 6) → Neither x.name x.block
+    pub next : (s : List ℕ) (room : ℕ) (x : Refusal) → (parse g s room).end ≡ refused x → number x ≡ 6 → Next (read g s 0).rows (parse g s room) x
+    pub others : (s : List ℕ) (room : ℕ) (x : Refusal) → (parse g s room).end ≡ refused x → ¬ (number x ≡ 6) → Neither (name x) (block x)
 
 -- ---- of which grammars
 
 -- a value or the input's length was judged: another number than 6, no name and no block
 abbrev pub is_judged : Refusal → Bool
-is_judged x = not (eqb x.number 6) && (eqb x.name 0 && eqb x.block 255)
+is_judged x = not (eqb (number x) 6) && (eqb (name x) 0 && eqb (block x) 255)
 
 -- such is every refusal that the grammar itself gives
 pub data Judges {A : Type 0} : Grammar A → Type 0 where

@@ -1,8 +1,8 @@
-// Where reading stands, and how it stops.
-ghost use Rattle.std.specs.Prelude.{◌≡◌, ◌<◌, ◌+◌, ltb};
-ghost use Rattle.syntax.specs.Reads.{halted, onward, stepped, Judged};
+// Where reading stands, and what stops it.
+ghost use Rattle.std.specs.Prelude.{◌≡◌, false, cond, ◌<◌, ◌+◌, ltb, Ok, Err};
+ghost use Rattle.syntax.specs.Reads.{Steps, stepped};
 
-use crate::refusals::{GOING, past};
+use crate::refusals::past;
 use crate::{Cursor, Item, Refusal};
 
 // Nothing read yet: nothing may be read until the frame's size is known.
@@ -10,64 +10,30 @@ pub const START: Cursor = Cursor {
     at: 0,
     limit: 0,
     count: 0,
-    stop: GOING,
 };
-
-// The same cursor, stopped where it stands.
-pub fn halt(c: Cursor, refusal: Refusal) -> Cursor
-    ensures { result ≡ halted refusal c }
-{
-    Cursor {
-        at: c.at,
-        limit: c.limit,
-        count: c.count,
-        stop: refusal,
-    }
-}
-
-// The same cursor at another bit.
-pub fn go_to(c: Cursor, bit: u16) -> Cursor
-    ensures { result ≡ onward bit c }
-{
-    let stop = c.stop;
-    Cursor {
-        at: bit,
-        limit: c.limit,
-        count: c.count,
-        stop,
-    }
-}
 
 // Whether so many bits more would end past the frame.
 pub fn ends_past(c: Cursor, width: u16) -> bool
-    ensures { result ≡ ltb c.limit (c.at + width) }
+    ensures value { result ≡ ltb c.limit (c.at + width) }
+    ensures fits { result ≡ false → c.at + width < 65536 }
 {
     (c.limit as usize) < c.at as usize + width as usize
 }
 
 // Refuses where what was read is bad.
-pub fn refuse_if(c: Cursor, bad: bool, refusal: Refusal) -> Cursor
-    requires { 0 < refusal.number }
-    ensures { Judged bad refusal c result }
+pub fn refuse_if(bad: bool, refusal: Refusal) -> Result<(), Refusal>
+    ensures { result ≡ cond bad (Err refusal) (Ok tt) }
 {
-    if c.stop.number != 0 {
-        return c;
-    }
-    if bad {
-        return halt(c, refusal);
-    }
-    c
+    if bad { Err(refusal) } else { Ok(()) }
 }
 
 // Goes on by one piece of a walk: refused, at the piece's start, where it would end past the frame.
-pub fn step(c: Cursor, item: Item, width: u16) -> Cursor
-    ensures { result ≡ stepped item width c }
+pub fn step(c: &mut Cursor, item: Item, width: u16) -> Result<(), Refusal>
+    ensures { Steps (stepped item width) c.old result c.new }
 {
-    if c.stop.number != 0 {
-        return c;
+    if ends_past(*c, width) {
+        return Err(past(item));
     }
-    if ends_past(c, width) {
-        return halt(c, past(item));
-    }
-    go_to(c, c.at + width)
+    c.at += width;
+    Ok(())
 }

@@ -1,24 +1,27 @@
 // Elements that stand under a test, or one after the other for each channel or band; and tests.
-ghost use Rattle.std.specs.Prelude.{◌≡◌, false, ◌&&◌, not, ◌<◌, ◌≤◌, ◌^◌, ◌+◌};
+ghost use Rattle.std.specs.Prelude.{◌≡◌, false, ◌&&◌, not, ◌<◌, ◌≤◌, ◌^◌, ◌+◌, IfOk};
 ghost use Rattle.syntax.specs.Grammar as grammar;
 ghost use Rattle.syntax.specs.Reads.{Reads};
 
 use crate::cursors::refuse_if;
 use crate::items::{nth, one};
 use crate::readers::{flag, note, take};
-use crate::{Cursor, Flagged, Item, Refusal, Taken};
+use crate::{Cursor, Item, Refusal};
 
 // A flag that is there only where a test holds: else it counts as not set.
-pub fn flag_if(s: &[u8], rows: &mut [i32], c: Cursor, present: bool, item: Item) -> Flagged
-    ensures { Reads (grammar.read_if present false (grammar.flag item)) s.now c rows.old result.set result.cursor rows.new }
+pub fn flag_if(
+    s: &[u8],
+    rows: &mut [i32],
+    c: &mut Cursor,
+    present: bool,
+    item: Item,
+) -> Result<bool, Refusal>
+    ensures { Reads (grammar.read_if present false (grammar.flag item)) s.now c.old rows.old result c.new rows.new }
 {
     if present {
         flag(s, rows, c, item)
     } else {
-        Flagged {
-            set: false,
-            cursor: c,
-        }
+        Ok(false)
     }
 }
 
@@ -26,22 +29,19 @@ pub fn flag_if(s: &[u8], rows: &mut [i32], c: Cursor, present: bool, item: Item)
 pub fn take_if(
     s: &[u8],
     rows: &mut [i32],
-    c: Cursor,
+    c: &mut Cursor,
     present: bool,
     item: Item,
     width: u16,
-) -> Taken
+) -> Result<u32, Refusal>
     requires { width ≤ 16 }
-    ensures reads { Reads (grammar.read_if present 0 (grammar.take item width)) s.now c rows.old result.value result.cursor rows.new }
-    ensures value_bound { result.value < 2 ^ width }
+    ensures reads { Reads (grammar.read_if present 0 (grammar.take item width)) s.now c.old rows.old result c.new rows.new }
+    ensures value_bound { IfOk result (λ value. value < 2 ^ width) }
 {
     if present {
         take(s, rows, c, item, width)
     } else {
-        Taken {
-            value: 0,
-            cursor: c,
-        }
+        Ok(0)
     }
 }
 
@@ -49,52 +49,50 @@ pub fn take_if(
 pub fn note_if(
     s: &[u8],
     rows: &mut [i32],
-    c: Cursor,
+    c: &mut Cursor,
     present: bool,
     item: Item,
     width: u16,
-) -> Cursor
+) -> Result<(), Refusal>
     requires { width ≤ 16 }
-    ensures { Reads (grammar.when present (grammar.note item width)) s.now c rows.old tt result rows.new }
+    ensures { Reads (grammar.when present (grammar.note item width)) s.now c.old rows.old result c.new rows.new }
 {
     if present {
-        return note(s, rows, c, item, width);
+        note(s, rows, c, item, width)
+    } else {
+        Ok(())
     }
-    c
 }
 
 // Flags that steer nothing: one for each channel or band.
-pub fn flags(s: &[u8], rows: &mut [i32], c: Cursor, blk: u8, name: u8, count: u8) -> Cursor
-    ensures { Reads (grammar.each count (λ i. grammar.note (grammar.nth blk name i) 1)) s.now c rows.old tt result rows.new }
+pub fn flags(
+    s: &[u8],
+    rows: &mut [i32],
+    c: &mut Cursor,
+    blk: u8,
+    name: u8,
+    count: u8,
+) -> Result<(), Refusal>
+    ensures { Reads (grammar.each count (λ i. grammar.note (grammar.nth blk name i) 1)) s.now c.old rows.old result c.new rows.new }
 {
-    let mut cursor = c;
     for i in 0..count {
-        cursor = note(s, rows, cursor, nth(blk, name, i), 1);
+        note(s, rows, c, nth(blk, name, i), 1)?;
     }
-    cursor
+    Ok(())
 }
 
 // A flag that announces what a block needs: block 0 must have it set.
 pub fn announced(
     s: &[u8],
     rows: &mut [i32],
-    c: Cursor,
+    c: &mut Cursor,
     blk: u8,
     name: u8,
     refusal: Refusal,
-) -> Flagged
-    requires { 0 < refusal.number }
-    ensures { Reads (grammar.announced blk name refusal) s.now c rows.old result.set result.cursor rows.new }
+) -> Result<bool, Refusal>
+    ensures { Reads (grammar.announced blk name refusal) s.now c.old rows.old result c.new rows.new }
 {
-    let sent = flag(s, rows, c, one(blk, name));
-    let set = sent.set;
-    let cursor = refuse_if(sent.cursor, and_not(blk == 0, set), refusal);
-    Flagged { set, cursor }
-}
-
-// One test holds and the other does not.
-pub fn and_not(a: bool, b: bool) -> bool
-    ensures { result ≡ (a && not b) }
-{
-    a && !b
+    let sent = flag(s, rows, c, one(blk, name))?;
+    refuse_if((blk == 0) & !sent, refusal)?;
+    Ok(sent)
 }

@@ -1,6 +1,6 @@
-// Reads the elements of a syncframe one after the other, and records each as a row of numbers in the rows that the caller lends. A cursor
-// that stopped at a refusal passes through every later reader unchanged, so that the code of a syntax table is the table: one call for each
-// line. What is public here is so because the readers of a frame stand in crates above.
+// Reads the elements of a syncframe one after the other, and records each as a row of numbers in the rows that the caller lends. A reader that
+// meets a refusal answers with it and leaves the cursor where reading stopped, so that the code of a syntax table is the table: one call and a
+// `?` for each line. What is public here is so because the readers of a frame stand in crates above.
 #![tactic(auto)]
 
 pub mod cursors;
@@ -58,33 +58,46 @@ pub struct Item {
 #[derive(Clone, Copy)]
 pub struct RoleNumbers(pub u8, pub u8);
 
-// Why reading stopped: the refusal's number, 0 while there is none; and the name and the block of the element that did not fit.
-#[derive(Clone, Copy)]
-pub struct Refusal {
-    pub number: u16,
-    pub name: u8,
-    pub block: u8,
+// Why reading stopped.
+#[derive(Clone, Copy, Debug, PartialEq, Eq)]
+pub enum Refusal {
+    // syncinfo and bsi
+    TooShort,
+    NotSync,
+    NoFrameSize,
+    CutShort,
+    BadBsid,
+    // An element would end past the frame: its name and its block.
+    Past { name: u8, block: u8 },
+    // No row is left.
+    Full,
+    // Block 0 lacks a flag that announces what it needs: cplstre, rematstr, baie, snroffste.
+    NoCouplingStrategy,
+    NoRematrixing,
+    NoCurve,
+    NoOffsets,
+    BadCouplingRange,
+    TooFewCoupled,
+    BadBandwidth,
+    NoBandwidth,
+    // Exponents are reused that were not sent, or not for these bins.
+    NoCouplingExponents,
+    NoChannelExponents,
+    NoLfeExponents,
+    BadGroup,
+    BadExponent,
+    // Delta segments are reused in block 0; a reserved code.
+    NoDelta,
+    BadDelta,
+    NoLeak,
+    // A header answer that does not fit the input: no refusal of a frame's own.
+    Unfit,
 }
 
-// Where reading stands: the first bit not yet read, the frame's end in bits, the rows written, and the refusal.
+// Where reading stands: the first bit not yet read, the frame's end in bits, and the rows written.
 #[derive(Clone, Copy)]
 pub struct Cursor {
     pub count: usize,
     pub at: u16,
     pub limit: u16,
-    pub stop: Refusal,
-}
-
-// A value that was read, and where reading stands then.
-#[derive(Clone, Copy)]
-pub struct Taken {
-    pub value: u32,
-    pub cursor: Cursor,
-}
-
-// A flag that was read, and where reading stands then.
-#[derive(Clone, Copy)]
-pub struct Flagged {
-    pub set: bool,
-    pub cursor: Cursor,
 }

@@ -1,163 +1,68 @@
-// The refusals of a frame, by name (the table of docs/FORMAT.md).
-ghost use Rattle.std.specs.Prelude.{◌≡◌};
-ghost use Rattle.syntax.specs.Refusals as refusals;
+// The refusals of a frame, by name (the table of docs/FORMAT.md), and what is told of one.
+ghost use Rattle.std.specs.Prelude.{◌≡◌, ◌<◌};
+ghost use Rattle.syntax.specs.Refusals as told;
 
 use crate::{Item, NONE, Refusal};
 
-// Nothing is refused.
-pub const GOING: Refusal = Refusal {
-    number: 0,
-    name: 0,
-    block: NONE,
-};
-
 // This element would end past the frame.
 pub fn past(item: Item) -> Refusal
-    ensures { result ≡ refusals.past item }
+    ensures { result ≡ told.past item }
 {
-    Refusal {
-        number: 6,
+    Refusal::Past {
         name: item.name,
         block: item.block,
     }
 }
 
-// ---- syncinfo and bsi
+impl Refusal {
+    // Its number in the table.
+    pub fn number(self) -> u8
+        ensures { result ≡ told.number self }
+    {
+        match self {
+            Refusal::TooShort => 1,
+            Refusal::NotSync => 2,
+            Refusal::NoFrameSize => 3,
+            Refusal::CutShort => 4,
+            Refusal::BadBsid => 5,
+            Refusal::Past { .. } => 6,
+            Refusal::Full => 7,
+            Refusal::NoCouplingStrategy => 8,
+            Refusal::BadCouplingRange => 9,
+            Refusal::TooFewCoupled => 10,
+            Refusal::BadBandwidth => 11,
+            Refusal::NoBandwidth => 12,
+            Refusal::NoCouplingExponents => 13,
+            Refusal::NoChannelExponents => 14,
+            Refusal::NoLfeExponents => 15,
+            Refusal::BadGroup => 16,
+            Refusal::BadExponent => 17,
+            Refusal::NoDelta => 18,
+            Refusal::BadDelta => 19,
+            Refusal::NoLeak => 20,
+            Refusal::NoRematrixing => 21,
+            Refusal::NoCurve => 22,
+            Refusal::NoOffsets => 23,
+            Refusal::Unfit => 24,
+        }
+    }
 
-pub const TOO_SHORT: Refusal = Refusal {
-    number: 1,
-    name: 0,
-    block: NONE,
-};
+    // The name and the block of the element that did not fit; every other refusal tells none.
+    pub fn name(self) -> u8
+        ensures { result ≡ told.name self }
+    {
+        match self {
+            Refusal::Past { name, .. } => name,
+            _ => 0,
+        }
+    }
 
-pub const NOT_SYNC: Refusal = Refusal {
-    number: 2,
-    name: 0,
-    block: NONE,
-};
-
-pub const NO_FRAME_SIZE: Refusal = Refusal {
-    number: 3,
-    name: 0,
-    block: NONE,
-};
-
-pub const CUT_SHORT: Refusal = Refusal {
-    number: 4,
-    name: 0,
-    block: NONE,
-};
-
-pub const BAD_BSID: Refusal = Refusal {
-    number: 5,
-    name: 0,
-    block: NONE,
-};
-
-// No row is left.
-pub const FULL: Refusal = Refusal {
-    number: 7,
-    name: 0,
-    block: NONE,
-};
-
-// ---- audio blocks
-
-// Block 0 lacks a flag that announces what it needs: cplstre, rematstr, baie, snroffste.
-pub const NO_COUPLING_STRATEGY: Refusal = Refusal {
-    number: 8,
-    name: 0,
-    block: NONE,
-};
-
-pub const NO_REMATRIXING: Refusal = Refusal {
-    number: 21,
-    name: 0,
-    block: NONE,
-};
-
-pub const NO_CURVE: Refusal = Refusal {
-    number: 22,
-    name: 0,
-    block: NONE,
-};
-
-pub const NO_OFFSETS: Refusal = Refusal {
-    number: 23,
-    name: 0,
-    block: NONE,
-};
-
-pub const BAD_COUPLING_RANGE: Refusal = Refusal {
-    number: 9,
-    name: 0,
-    block: NONE,
-};
-
-pub const TOO_FEW_COUPLED: Refusal = Refusal {
-    number: 10,
-    name: 0,
-    block: NONE,
-};
-
-pub const BAD_BANDWIDTH: Refusal = Refusal {
-    number: 11,
-    name: 0,
-    block: NONE,
-};
-
-pub const NO_BANDWIDTH: Refusal = Refusal {
-    number: 12,
-    name: 0,
-    block: NONE,
-};
-
-// Exponents are reused that were not sent, or not for these bins.
-pub const NO_COUPLING_EXPONENTS: Refusal = Refusal {
-    number: 13,
-    name: 0,
-    block: NONE,
-};
-
-pub const NO_CHANNEL_EXPONENTS: Refusal = Refusal {
-    number: 14,
-    name: 0,
-    block: NONE,
-};
-
-pub const NO_LFE_EXPONENTS: Refusal = Refusal {
-    number: 15,
-    name: 0,
-    block: NONE,
-};
-
-pub const BAD_GROUP: Refusal = Refusal {
-    number: 16,
-    name: 0,
-    block: NONE,
-};
-
-pub const BAD_EXPONENT: Refusal = Refusal {
-    number: 17,
-    name: 0,
-    block: NONE,
-};
-
-// Delta segments are reused in block 0; a reserved code.
-pub const NO_DELTA: Refusal = Refusal {
-    number: 18,
-    name: 0,
-    block: NONE,
-};
-
-pub const BAD_DELTA: Refusal = Refusal {
-    number: 19,
-    name: 0,
-    block: NONE,
-};
-
-pub const NO_LEAK: Refusal = Refusal {
-    number: 20,
-    name: 0,
-    block: NONE,
-};
+    pub fn block(self) -> u8
+        ensures { result ≡ told.block self }
+    {
+        match self {
+            Refusal::Past { block, .. } => block,
+            _ => NONE,
+        }
+    }
+}

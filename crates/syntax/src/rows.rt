@@ -3,11 +3,11 @@ ghost use Rattle.std.specs.Prelude.{◌≡◌, ◌<◌, ◌≤◌, ◌+◌, leng
 ghost use Rattle.std.proofs.lemmas.List.Edits.{sets};
 ghost use Rattle.syntax.specs.Numbers as numbers;
 ghost use Rattle.syntax.specs.Run.{row, spanning};
-ghost use Rattle.syntax.specs.Reads.{Goes, recorded, entered, closed, Writes};
+ghost use Rattle.syntax.specs.Reads.{recorded, entered, closed, Writes};
 
-use crate::cursors::{ends_past, halt};
-use crate::refusals::{FULL, past};
-use crate::{Cursor, Item, NONE, ROW, Role, RoleNumbers};
+use crate::cursors::ends_past;
+use crate::refusals::past;
+use crate::{Cursor, Item, NONE, ROW, Refusal, Role, RoleNumbers};
 
 // The numbers of a role. (Public for the records that stand above the rows.)
 pub fn role_numbers(role: Role) -> RoleNumbers
@@ -64,46 +64,49 @@ fn write_row(rows: &mut [i32], to: usize, item: Item, start: u16, width: u16, va
 }
 
 // Records an element whose bits were found to fit, and stands after them: refused where no row is left.
-fn enter(rows: &mut [i32], c: Cursor, item: Item, start: u16, width: u16, value: u32) -> Cursor
-    requires { Goes c × ((start + width < 65536) × (value < 65536)) }
-    ensures { Writes (entered item start width value) c rows.old result rows.new }
+fn enter(
+    rows: &mut [i32],
+    c: &mut Cursor,
+    item: Item,
+    start: u16,
+    width: u16,
+    value: u32,
+) -> Result<(), Refusal>
+    requires { (start + width < 65536) × (value < 65536) }
+    ensures { Writes (entered item start width value) c.old rows.old result c.new rows.new }
 {
-    let count = c.count;
-    if rows.len() / ROW <= count {
-        return halt(c, FULL);
+    if rows.len() / ROW <= c.count {
+        return Err(Refusal::Full);
     }
-    write_row(rows, count * ROW, item, start, width, value);
-    let stop = c.stop;
-    Cursor {
-        at: start + width,
-        limit: c.limit,
-        count: count + 1,
-        stop,
-    }
+    write_row(rows, c.count * ROW, item, start, width, value);
+    c.at = start + width;
+    c.count += 1;
+    Ok(())
 }
 
 // Records an element with its value and passes over its bits: refused where it would end past the frame. (Public for the readers.)
-pub fn put(rows: &mut [i32], c: Cursor, item: Item, width: u16, value: u32) -> Cursor
+pub fn put(
+    rows: &mut [i32],
+    c: &mut Cursor,
+    item: Item,
+    width: u16,
+    value: u32,
+) -> Result<(), Refusal>
     requires { value < 65536 }
-    ensures { Writes (recorded item width value) c rows.old result rows.new }
+    ensures { Writes (recorded item width value) c.old rows.old result c.new rows.new }
 {
+    if ends_past(*c, width) {
+        return Err(past(item));
+    }
     let at = c.at;
-    if c.stop.number != 0 {
-        return c;
-    }
-    if ends_past(c, width) {
-        return halt(c, past(item));
-    }
     enter(rows, c, item, at, width, value)
 }
 
 // Records what was walked since bit `start` as one span: refused, at the walk's end, where no row is left.
-pub fn close(rows: &mut [i32], c: Cursor, item: Item, start: u16) -> Cursor
-    requires { start ≤ c.at }
-    ensures { Writes (closed item start) c rows.old result rows.new }
+pub fn close(rows: &mut [i32], c: &mut Cursor, item: Item, start: u16) -> Result<(), Refusal>
+    requires { start ≤ c.old.at }
+    ensures { Writes (closed item start) c.old rows.old result c.new rows.new }
 {
-    if c.stop.number != 0 {
-        return c;
-    }
-    enter(rows, c, item, start, c.at - start, 0)
+    let width = c.at - start;
+    enter(rows, c, item, start, width, 0)
 }

@@ -5,17 +5,16 @@ use native.Mathlib.Omega.{arith}
 use mathlib.Core.Bool.{Bool, true, false}
 use mathlib.Core.List.{List, [], ◌∷◌, ◌++◌}
 use mathlib.Core.Path.{◌≡◌, refl, sym, ap, ◌∙◌}
-use lib.IntN.{ℤ}
-use lib.ListN.{length}
 use lib.Dec.{ltb}
 use Rattle.std.specs.Prelude.{Result, Ok, Err}
-use Rattle.syntax.specs.declared.Cursor.{Cursor}
+use Rattle.syntax.specs.declared.Reader.{Reader}
 use Rattle.syntax.specs.declared.Item.{Item}
 use Rattle.syntax.specs.declared.Refusal.{Refusal}
 use Rattle.syntax.specs.Grammar.{pieces}
 use Rattle.syntax.specs.Run.{spanning, row, sum, Check, clear, stop, check, walk_check}
 use Rattle.syntax.specs.Place.{Place, Outcome, got, no, spot, put, stand, except, and_then, exec}
-use Rattle.syntax.specs.Reads.{place, closed, Writes, stepped, walked, Steps, Reads}
+use Rattle.syntax.specs.Reads.{place, closed, stepped, walked, Writes, Reads}
+use Rattle.syntax.proofs.Sequence.{onward}
 
 -- one walk and then another
 then_then : (o : Outcome (Unit {0})) (f g : Place → Outcome (Unit {0})) → and_then (and_then o (λ _ q. f q)) (λ _ q. g q) ≡ and_then o (λ _ q. and_then (f q) (λ _ q. g q))
@@ -66,20 +65,20 @@ left_after i start (w ∷ ws) p =
     ∙ ap (λ f. and_then (stepped i w p) f) (λ j _ q. left_after i start ws q j)
     ∙ one_piece i start w ws p
 
--- a walk from cursor c, and the row that was written after it
-module _ (ws : List ℕ) (i : Item) (s : List ℕ) (c : Cursor) (before : List ℤ) where
-  pieces_left : and_then (walked i ws (place c before)) (λ _ q. closed i c.at q) ≡ exec (pieces i ws) s (place c before)
+-- a walk from where a reader stands, and the row that was written after it
+module _ (ws : List ℕ) (i : Item) (s : List ℕ) (p : Place) where
+  pieces_left : and_then (walked i ws p) (λ _ q. closed i p.at q) ≡ exec (pieces i ws) s p
   unfolding exec
   pieces_left =
-      let width : c.at + sum ws - c.at ≡ sum ws = omega arith in
-      left_after i c.at ws (place c before)
-      ∙ ap (λ n. except (walk_check i (spot 0 (place c before)) ws) (place c before) (λ _. got tt (put (row spanning i c.at n 0) (place c before)))) width
+      let width : p.at + sum ws - p.at ≡ sum ws = omega arith in
+      left_after i p.at ws p ∙ ap (λ n. except (walk_check i (spot 0 p) ws) p (λ _. got tt (put (row spanning i p.at n 0) p))) width
 
-  pub closes : {d : Cursor} {r : Result (Unit {0}) Refusal} {e : Cursor} {after : List ℤ}
-      → Steps (walked i ws) c (Ok tt) d → Writes (closed i c.at) d before r e after → length after ≡ length before → Reads (pieces i ws) s c before r e after
+module _ (ws : List ℕ) (i : Item) {c d : Reader} where
+  pub closes : {r : Result (Unit {0}) Refusal} {e : Reader} → Writes (walked i ws) c (Ok tt) d → Writes (closed i c.at) d r e → Reads (pieces i ws) c r e
   unfolding and_then
-  closes h w l = record { same = w.same ∙ ap (λ o. and_then o (λ _ q. closed i c.at q)) (h.same before) ∙ pieces_left; long = l }
+  closes h w =
+      record { same = w.same ∙ ap (λ o. and_then o (λ _ q. closed i c.at q)) h.same ∙ pieces_left ws i c.bytes.now (place c); on = onward h.on w.on }
 
-  pub walk_stops : {d : Cursor} {x : Refusal} → Steps (walked i ws) c (Err x) d → Reads (pieces i ws) s c before (Err x) d before
+  pub walk_stops : {x : Refusal} → Writes (walked i ws) c (Err x) d → Reads (pieces i ws) c (Err x) d
   unfolding and_then
-  walk_stops h = record { same = ap (λ o. and_then o (λ _ q. closed i c.at q)) (h.same before) ∙ pieces_left; long = refl }
+  walk_stops h = record { same = ap (λ o. and_then o (λ _ q. closed i c.at q)) h.same ∙ pieces_left ws i c.bytes.now (place c); on = h.on }

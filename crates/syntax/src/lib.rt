@@ -1,15 +1,15 @@
-// Reads the elements of a syncframe one after the other, and records each as a row of numbers in the rows that the caller lends. A reader that
-// meets a refusal answers with it and leaves the cursor where reading stopped, so that the code of a syntax table is the table: one call and a
-// `?` for each line. What is public here is so because the readers of a frame stand in crates above.
+// Reads the elements of a syncframe one after the other, and records each as a row of numbers in the rows that the caller lends. A method of
+// the reader that meets a refusal answers with it, and the reader stands where reading stopped: so the code of a syntax table is the table, one
+// call and a `?` for each line. What is public here is so because those who read a frame stand in crates above.
 #![tactic(auto)]
 
-pub mod cursors;
 pub mod elements;
 pub mod items;
 pub mod names;
 pub mod readers;
 pub mod refusals;
 pub mod rows;
+pub mod walks;
 
 // The numbers of a row.
 pub const ROW: usize = 9;
@@ -94,9 +94,12 @@ pub enum Refusal {
     Unfit,
 }
 
-// Where reading stands: the first bit not yet read, the frame's end in bits, and the rows written.
-#[derive(Clone, Copy)]
-pub struct Cursor {
+// Reads a frame: its bytes, and the rows that the caller lends. It stands at the first bit not yet read, and knows the frame's end in bits and
+// how many rows are written.
+#[derive(Drop)]
+pub struct Reader<'a> {
+    pub bytes: &'a [u8],
+    pub rows: &'a mut [i32],
     pub count: usize,
     pub at: u16,
     pub limit: u16,

@@ -1,67 +1,63 @@
-// The readers: one for each kind of element.
-ghost use Rattle.std.specs.Prelude.{◌≡◌, List, ℕ, ◌<◌, ◌≤◌, ◌^◌, ℤ, IfOk};
+// The reader's methods: where it starts, what it refuses, and one for each kind of element.
+ghost use Rattle.std.specs.Prelude.{◌≡◌, cond, ◌<◌, ◌≤◌, ◌^◌, IfOk, Ok, Err};
 ghost use Rattle.syntax.specs.Grammar as grammar;
 ghost use Rattle.syntax.specs.Reads.{Reads};
 
-use crate::rows::put;
-use crate::{Cursor, Item, Refusal};
+use crate::{Item, Reader, Refusal};
 
-// Reads a value of at most 16 bits.
-pub fn take(
-    s: &[u8],
-    rows: &mut [i32],
-    c: &mut Cursor,
-    item: Item,
-    width: u16,
-) -> Result<u32, Refusal>
-    requires { width ≤ 16 }
-    ensures reads { Reads (grammar.take item width) s.now c.old rows.old result c.new rows.new }
-    ensures value_bound { IfOk result (λ value. value < 2 ^ width) }
+// Refuses where what was read is bad.
+pub fn refuse_if(bad: bool, refusal: Refusal) -> Result<(), Refusal>
+    ensures { result ≡ cond bad (Err refusal) (Ok tt) }
 {
-    let value = bits::get(s, c.at as usize, width as usize);
-    put(rows, c, item, width, value)?;
-    Ok(value)
+    if bad { Err(refusal) } else { Ok(()) }
 }
 
-// Reads a flag: one bit.
-pub fn flag(s: &[u8], rows: &mut [i32], c: &mut Cursor, item: Item) -> Result<bool, Refusal>
-    ensures { Reads (grammar.flag item) s.now c.old rows.old result c.new rows.new }
-{
-    let value = bits::get(s, c.at as usize, 1);
-    put(rows, c, item, 1, value)?;
-    Ok(value == 1)
-}
-
-// Records a value that steers nothing, and drops it.
-pub fn note(
-    s: &[u8],
-    rows: &mut [i32],
-    c: &mut Cursor,
-    item: Item,
-    width: u16,
-) -> Result<(), Refusal>
-    requires { width ≤ 16 }
-    ensures { Reads (grammar.note item width) s.now c.old rows.old result c.new rows.new }
-{
-    let value = bits::get(s, c.at as usize, width as usize);
-    put(rows, c, item, width, value)
-}
-
-// Passes over a span.
-pub fn pass(rows: &mut [i32], c: &mut Cursor, item: Item, width: u16) -> Result<(), Refusal>
-    ensures { (s : List ℕ) → Reads (grammar.pass item width) s c.old rows.old result c.new rows.new }
-{
-    put(rows, c, item, width, 0)
-}
-
-// Sets the limit to a frame of some bytes: refused where the input is shorter.
-pub fn frame(s: &[u8], c: &mut Cursor, refusal: Refusal, bytes: u16) -> Result<(), Refusal>
-    requires { bytes ≤ 3840 }
-    ensures { (room : List ℤ) → Reads (grammar.framed refusal bytes) s.now c.old room result c.new room }
-{
-    if s.len() < bytes as usize {
-        return Err(refusal);
+impl Reader<'_> {
+    // Sets the limit to a frame of some bytes: refused where the input is shorter.
+    pub fn frame(&mut self, refusal: Refusal, bytes: u16) -> Result<(), Refusal>
+        requires { bytes ≤ 3840 }
+        ensures { Reads (grammar.framed refusal bytes) self.old result self.new }
+    {
+        if self.bytes.len() < bytes as usize {
+            return Err(refusal);
+        }
+        self.limit = bytes * 8;
+        Ok(())
     }
-    c.limit = bytes * 8;
-    Ok(())
+
+    // Reads a value of at most 16 bits.
+    pub fn take(&mut self, item: Item, width: u16) -> Result<u32, Refusal>
+        requires { width ≤ 16 }
+        ensures reads { Reads (grammar.take item width) self.old result self.new }
+        ensures value_bound { IfOk result (λ value. value < 2 ^ width) }
+    {
+        let value = bits::get(self.bytes, self.at as usize, width as usize);
+        self.put(item, width, value)?;
+        Ok(value)
+    }
+
+    // Reads a flag: one bit.
+    pub fn flag(&mut self, item: Item) -> Result<bool, Refusal>
+        ensures { Reads (grammar.flag item) self.old result self.new }
+    {
+        let value = bits::get(self.bytes, self.at as usize, 1);
+        self.put(item, 1, value)?;
+        Ok(value == 1)
+    }
+
+    // Records a value that steers nothing, and drops it.
+    pub fn note(&mut self, item: Item, width: u16) -> Result<(), Refusal>
+        requires { width ≤ 16 }
+        ensures { Reads (grammar.note item width) self.old result self.new }
+    {
+        let value = bits::get(self.bytes, self.at as usize, width as usize);
+        self.put(item, width, value)
+    }
+
+    // Passes over a span.
+    pub fn pass(&mut self, item: Item, width: u16) -> Result<(), Refusal>
+        ensures { Reads (grammar.pass item width) self.old result self.new }
+    {
+        self.put(item, width, 0)
+    }
 }

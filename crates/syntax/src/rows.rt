@@ -1,13 +1,12 @@
 // The rows: each element is recorded as a row of numbers in the rows that the caller lends.
-ghost use Rattle.std.specs.Prelude.{◌≡◌, ◌<◌, ◌≤◌, ◌+◌, length};
+ghost use Rattle.std.specs.Prelude.{◌≡◌, false, ltb, ◌<◌, ◌≤◌, ◌+◌, length};
 ghost use Rattle.std.proofs.lemmas.List.Edits.{sets};
 ghost use Rattle.syntax.specs.Numbers as numbers;
 ghost use Rattle.syntax.specs.Run.{row, spanning};
 ghost use Rattle.syntax.specs.Reads.{recorded, entered, closed, Writes};
 
-use crate::cursors::ends_past;
 use crate::refusals::past;
-use crate::{Cursor, Item, NONE, ROW, Refusal, Role, RoleNumbers};
+use crate::{Item, NONE, ROW, Reader, Refusal, Role, RoleNumbers};
 
 // The numbers of a role. (Public for the records that stand above the rows.)
 pub fn role_numbers(role: Role) -> RoleNumbers
@@ -63,50 +62,47 @@ fn write_row(rows: &mut [i32], to: usize, item: Item, start: u16, width: u16, va
     rows[to + 8] = shown(item.part);
 }
 
-// Records an element whose bits were found to fit, and stands after them: refused where no row is left.
-fn enter(
-    rows: &mut [i32],
-    c: &mut Cursor,
-    item: Item,
-    start: u16,
-    width: u16,
-    value: u32,
-) -> Result<(), Refusal>
-    requires { (start + width < 65536) × (value < 65536) }
-    ensures { Writes (entered item start width value) c.old rows.old result c.new rows.new }
-{
-    if rows.len() / ROW <= c.count {
-        return Err(Refusal::Full);
+impl Reader<'_> {
+    // Whether so many bits more would end past the frame.
+    pub fn ends_past(&self, width: u16) -> bool
+        ensures value { result ≡ ltb self.now.limit (self.now.at + width) }
+        ensures fits { result ≡ false → self.now.at + width < 65536 }
+    {
+        (self.limit as usize) < self.at as usize + width as usize
     }
-    write_row(rows, c.count * ROW, item, start, width, value);
-    c.at = start + width;
-    c.count += 1;
-    Ok(())
-}
 
-// Records an element with its value and passes over its bits: refused where it would end past the frame. (Public for the readers.)
-pub fn put(
-    rows: &mut [i32],
-    c: &mut Cursor,
-    item: Item,
-    width: u16,
-    value: u32,
-) -> Result<(), Refusal>
-    requires { value < 65536 }
-    ensures { Writes (recorded item width value) c.old rows.old result c.new rows.new }
-{
-    if ends_past(*c, width) {
-        return Err(past(item));
+    // Records an element whose bits were found to fit, and stands after them: refused where no row is left.
+    fn enter(&mut self, item: Item, start: u16, width: u16, value: u32) -> Result<(), Refusal>
+        requires { (start + width < 65536) × (value < 65536) }
+        ensures { Writes (entered item start width value) self.old result self.new }
+    {
+        if self.rows.len() / ROW <= self.count {
+            return Err(Refusal::Full);
+        }
+        write_row(self.rows, self.count * ROW, item, start, width, value);
+        self.at = start + width;
+        self.count += 1;
+        Ok(())
     }
-    let at = c.at;
-    enter(rows, c, item, at, width, value)
-}
 
-// Records what was walked since bit `start` as one span: refused, at the walk's end, where no row is left.
-pub fn close(rows: &mut [i32], c: &mut Cursor, item: Item, start: u16) -> Result<(), Refusal>
-    requires { start ≤ c.old.at }
-    ensures { Writes (closed item start) c.old rows.old result c.new rows.new }
-{
-    let width = c.at - start;
-    enter(rows, c, item, start, width, 0)
+    // Records an element with its value and passes over its bits: refused where it would end past the frame. (Public for the readers.)
+    pub fn put(&mut self, item: Item, width: u16, value: u32) -> Result<(), Refusal>
+        requires { value < 65536 }
+        ensures { Writes (recorded item width value) self.old result self.new }
+    {
+        if self.ends_past(width) {
+            return Err(past(item));
+        }
+        let at = self.at;
+        self.enter(item, at, width, value)
+    }
+
+    // Records what was walked since bit `start` as one span: refused, at the walk's end, where no row is left.
+    pub fn close(&mut self, item: Item, start: u16) -> Result<(), Refusal>
+        requires { start ≤ self.old.at }
+        ensures { Writes (closed item start) self.old result self.new }
+    {
+        let width = self.at - start;
+        self.enter(item, start, width, 0)
+    }
 }

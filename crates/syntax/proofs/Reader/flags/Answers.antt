@@ -1,6 +1,6 @@
--- `syntax::elements::flags` meets its contract: the invariant says which flags are left. Assumes nothing.
+-- `syntax::Reader::flags` meets its contract: the invariant says which flags are left. Assumes nothing.
 use Rattle.syntax.proofs.Sequence.{refused, noticed, turn, leaves, ends}
-use Rattle.syntax.proofs.elements.flags.Goals as goal
+use Rattle.syntax.proofs.Reader.flags.Goals as goal
 
 pub returns-in_err-note : goal.returns-in_err-note
 returns-in_err-note c = refused c.from_residual.ensures.1 (leaves c.loop-i.invariant c.loop-i-test.true (noticed c.nth.ensures c.in_err-note.ensures))

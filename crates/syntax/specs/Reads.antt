@@ -26,6 +26,11 @@ pub record Reads {A : Type 0} (g : Grammar A) (c : Reader) (r : Result A Refusal
   pub same : outcome r (place d) ≡ exec g c.bytes.now (place c)
   pub on : Same c d
 
+-- a result beside what was lent: the grammar's answer is made of both
+abbrev pub with_lent : {A B : Type 0} → (A → B) → Result A Refusal → Result B Refusal
+with_lent f (Ok a) = Ok (f a)
+with_lent f (Err x) = Err x
+
 -- ---- a row: of one piece; and where all pieces were found to fit
 
 abbrev pub recorded : Item → (w v : ℕ) → Place → Outcome (Unit {0})

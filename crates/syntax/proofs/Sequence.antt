@@ -124,6 +124,11 @@ judged bad x {c = c} e = rw e (go bad)
     go true = record { same = refl; on = unchanged }
     go false = record { same = refl; on = unchanged }
 
+-- what went on was good
+pub good : (bad : Bool) (x : Refusal) → ◌≡◌ {A = Result (Unit {0}) Refusal} (Ok tt) (cond bad (Err x) (Ok tt)) → bad ≡ false
+good true x e = cc
+good false x e = refl
+
 -- ---- the start of a frame
 
 module _ {x : Refusal} {n : ℕ} {c : Reader} where

@@ -1,6 +1,6 @@
 // The six blocks of a frame.
 ghost use Rattle.std.specs.Prelude.{◌≡◌, ◌+◌, ◌<◌, ◌≤◌};
-ghost use Rattle.syntax.specs.Reads.{Reads};
+ghost use Rattle.syntax.specs.Reads.{Reads, with_lent};
 ghost use Rattle.header.specs.Sound.{SoundHeader};
 ghost use Rattle.ac3.specs.Frame as grammar;
 ghost use Rattle.ac3.specs.Sound.{SoundState};
@@ -10,7 +10,7 @@ use crate::{SLOT_COUNTS, State, Tally};
 use channels::Bandwidths;
 use header::Header;
 use slots::{AllocState, Coupling, CouplingLeak, Cover, Curve, NO_DELTAS, Offsets};
-use syntax::Cursor;
+use syntax::{Reader, Refusal};
 
 // Nothing was sent yet.
 fn unsent() -> State
@@ -70,34 +70,21 @@ fn uncounted() -> Tally
     }
 }
 
-#[derive(Drop)]
-pub struct AudioRead {
-    pub tally: Tally,
-    pub cursor: Cursor,
-}
-
-// Where reading stopped the blocks that are left are not looked at.
-pub fn audio(s: &[u8], rows: &mut [i32], c: Cursor, header: Header) -> AudioRead
+// The tally of the six blocks. Where reading stopped the blocks that are left are not looked at.
+pub fn audio(r: &mut Reader<'_>, header: Header) -> Result<Tally, Refusal>
     requires { SoundHeader header }
-    ensures { Reads (grammar.audio header) s.now c rows.old (record { header = header; tally = result.tally; end = result.cursor.at }) result.cursor rows.new }
+    ensures { Reads (grammar.audio header) r.old (with_lent (λ tally. record { header = header; tally = tally; end = r.new.at }) result) r.new }
 {
     let mut exps = [[0i16; 256]; 7];
     let mut memos = [[0u32; 16]; 7];
     let mut state = unsent();
     let mut tally = uncounted();
     let mut had = [false; 5];
-    let mut cursor = c;
     for blk in 0..6 {
-        if cursor.stop.number != 0 {
-            return AudioRead { tally, cursor };
-        }
-        let block = audio_block(
-            s, rows, cursor, &mut exps, &mut memos, header, blk, state, tally, had,
-        );
-        state = block.state;
-        tally = block.tally;
-        had = block.had;
-        cursor = block.cursor;
+        let left = audio_block(r, &mut exps, &mut memos, header, blk, state, tally, had)?;
+        state = left.state;
+        tally = left.tally;
+        had = left.had;
     }
-    AudioRead { tally, cursor }
+    Ok(tally)
 }

@@ -1,7 +1,7 @@
 // audblk (4.3.3): the sections of a block in the order of the syntax table.
-ghost use Rattle.std.specs.Prelude.{false, cond, ◌&&◌, ◌||◌, List, [], ◌∷◌, ◌++◌, ◌≡◌, ℕ, ◌+◌, ◌*◌, ◌<◌, ◌≤◌, get_or};
+ghost use Rattle.std.specs.Prelude.{false, cond, ◌&&◌, ◌||◌, List, [], ◌∷◌, ◌++◌, ◌≡◌, ℕ, ◌+◌, ◌*◌, ◌<◌, ◌≤◌, get_or, IfOk};
 ghost use Rattle.syntax.specs.Grammar as syntax;
-ghost use Rattle.syntax.specs.Reads.{Reads};
+ghost use Rattle.syntax.specs.Reads.{Reads, with_lent};
 ghost use Rattle.header.specs.Header as header;
 ghost use Rattle.header.specs.Sound.{SoundHeader};
 ghost use Rattle.std.proofs.lemmas.List.Edits.{sets};
@@ -29,68 +29,50 @@ use parameters::delta::deltas;
 use parameters::leak::coupling_leak;
 use parameters::offsets::offsets;
 use slots::{AllocState, Coupling, Cover, Strategies};
-use syntax::elements::{and_not, flags, note_if};
 use syntax::items::one_roled;
 use syntax::names::*;
-use syntax::readers::{flag, pass, take};
-use syntax::{Cursor, Role};
+use syntax::{Reader, Refusal, Role};
 use tables::nfchans;
 
 // Dynamic range: the second programme's names stand two further on.
-fn dynamic_range(s: &[u8], rows: &mut [i32], c: Cursor, blk: u8, p: u8) -> Cursor
+fn dynamic_range(r: &mut Reader<'_>, blk: u8, p: u8) -> Result<(), Refusal>
     requires { p < 2 }
-    ensures { Reads (grammar.dynamic_range blk p) s.now c rows.old tt result rows.new }
+    ensures { Reads (grammar.dynamic_range blk p) r.old result r.new }
 {
     let exists = one_roled(blk, Role::DynrngExists(p), DYNRNGE + 2 * p);
-    let dynrnge = flag(s, rows, c, exists);
+    let dynrnge = r.flag(exists)?;
     let dynrng = one_roled(blk, Role::Dynrng(p), DYNRNG + 2 * p);
-    note_if(s, rows, dynrnge.cursor, dynrnge.set, dynrng, 8)
+    r.note_if(dynrnge, dynrng, 8)
 }
 
-fn dynamic_ranges(s: &[u8], rows: &mut [i32], c: Cursor, blk: u8, acmod: u8) -> Cursor
-    ensures { Reads (syntax.each (header.programmes acmod) (grammar.dynamic_range blk)) s.now c rows.old tt result rows.new }
+fn dynamic_ranges(r: &mut Reader<'_>, blk: u8, acmod: u8) -> Result<(), Refusal>
+    ensures { Reads (syntax.each (header.programmes acmod) (grammar.dynamic_range blk)) r.old result r.new }
 {
-    let last = programmes(acmod);
-    let mut cursor = c;
-    for p in 0..last {
-        cursor = dynamic_range(s, rows, cursor, blk, p);
+    for p in 0..programmes(acmod) {
+        dynamic_range(r, blk, p)?;
     }
-    cursor
+    Ok(())
 }
 
-fn skip_field(s: &[u8], rows: &mut [i32], c: Cursor, blk: u8) -> Cursor
-    ensures { Reads (grammar.skip_field blk) s.now c rows.old tt result rows.new }
+fn skip_field(r: &mut Reader<'_>, blk: u8) -> Result<(), Refusal>
+    ensures { Reads (grammar.skip_field blk) r.old result r.new }
 {
-    let skiple = flag(s, rows, c, one_roled(blk, Role::Skiple, SKIPLE));
-    if skiple.set {
-        let skipl = take(
-            s,
-            rows,
-            skiple.cursor,
-            one_roled(blk, Role::Skipl, SKIPL),
-            9,
-        );
+    let skiple = r.flag(one_roled(blk, Role::Skiple, SKIPLE))?;
+    if skiple {
+        let skipl = r.take(one_roled(blk, Role::Skipl, SKIPL), 9)?;
         let skipfld = one_roled(blk, Role::Skipfld, SKIPFLD);
-        pass(rows, skipl.cursor, skipfld, 8 * skipl.value as u16)
-    } else {
-        skiple.cursor
+        r.pass(skipfld, 8 * skipl as u16)?;
     }
+    Ok(())
 }
 
-// Whether a channel has had coordinates while it was coupled: before, or in this block.
-fn has_had(before: bool, coupled: bool, cplcoe: bool) -> bool
-    ensures { result ≡ (before || (coupled && cplcoe)) }
-{
-    before || (coupled && cplcoe)
-}
-
-// The same of each channel.
+// Which channels have had coordinates while they were coupled: before, or in this block.
 fn had_by_now(before: [bool; 5], chincpl: [bool; 5], cplcoe: [bool; 5]) -> [bool; 5]
     ensures { (ch : ℕ) → ch < 5 → get_or result ch false ≡ (get_or before ch false || (get_or chincpl ch false && get_or cplcoe ch false)) }
 {
-    let mut had = [false; 5];
+    let mut had = before;
     for ch in 0..5 {
-        had[ch] = has_had(before[ch], chincpl[ch], cplcoe[ch]);
+        had[ch] = before[ch] | (chincpl[ch] & cplcoe[ch]);
     }
     had
 }
@@ -100,7 +82,7 @@ fn all_had(chincpl: [bool; 5], had: [bool; 5]) -> bool
     ensures { result ≡ each_coupled chincpl (λ ch. get_or had ch false) }
 {
     for ch in 0..5 {
-        if and_not(chincpl[ch], had[ch]) {
+        if chincpl[ch] & !had[ch] {
             return false;
         }
     }
@@ -111,30 +93,11 @@ fn all_had(chincpl: [bool; 5], had: [bool; 5]) -> bool
 fn sent_so_far(before: bool, chincpl: [bool; 5], had: [bool; 5]) -> bool
     ensures { result ≡ (before && each_coupled chincpl (λ ch. get_or had ch false)) }
 {
-    before && all_had(chincpl, had)
+    before & all_had(chincpl, had)
 }
 
-// One block more, or not.
-fn one_more_if(count: u8, more: bool) -> u8
-    requires { count < 6 }
-    ensures { result ≡ cond more (count + 1) count }
-{
-    if more { count + 1 } else { count }
-}
-
-// The counts of a block's slots in their place among those of all blocks.
-fn with_block(all: [u16; SLOT_COUNTS], blk: u8, bits: [u16; 7]) -> [u16; SLOT_COUNTS]
-    requires { blk < 6 }
-    ensures { result ≡ sets all (7 * blk) bits }
-{
-    let first = 7 * blk as usize;
-    let mut counts = all;
-    for slot in 0..7 {
-        counts[first + slot] = bits[slot];
-    }
-    counts
-}
-
+// The tally with one block more: how it is coupled, where it and its mantissas start, and the bits of its slots, in their place among those of
+// all blocks.
 fn counted(
     blk: u8,
     start: u16,
@@ -148,192 +111,141 @@ fn counted(
     ensures value { result ≡ grammar.counted blk start (record { start = mantissas; bits = bits }) cplinu sent t }
     ensures coupled_bound { result.coupled ≤ blk + 1 }
 {
-    let at = blk as usize;
-    let mut starts = t.starts;
-    let mut mantissa_starts = t.mantissas;
-    starts[at] = start;
-    mantissa_starts[at] = mantissas;
-    let all = t.bits;
-    let bits = with_block(all, blk, bits);
-    Tally {
-        coupled: one_more_if(t.coupled, cplinu),
-        coordinates: sent,
-        starts,
-        mantissas: mantissa_starts,
-        bits,
+    let mut next = t;
+    if cplinu {
+        next.coupled += 1;
     }
+    next.coordinates = sent;
+    next.starts[blk as usize] = start;
+    next.mantissas[blk as usize] = mantissas;
+    let first = 7 * blk as usize;
+    next.bits[first..first + 7].copy_from_slice(&bits);
+    next
 }
 
 // Block switches, dither and dynamic range.
-fn channel_settings(s: &[u8], rows: &mut [i32], c: Cursor, blk: u8, acmod: u8) -> Cursor
-    ensures { Reads (grammar.channel_settings blk acmod) s.now c rows.old tt result rows.new }
+fn channel_settings(r: &mut Reader<'_>, blk: u8, acmod: u8) -> Result<(), Refusal>
+    ensures { Reads (grammar.channel_settings blk acmod) r.old result r.new }
 {
     let n = nfchans(acmod);
-    let blksw = flags(s, rows, c, blk, BLKSW, n);
-    let dithflag = flags(s, rows, blksw, blk, DITHFLAG, n);
-    dynamic_ranges(s, rows, dithflag, blk, acmod)
+    r.flags(blk, BLKSW, n)?;
+    r.flags(blk, DITHFLAG, n)?;
+    dynamic_ranges(r, blk, acmod)
 }
 
 // The coupling in force, and which channels have new coordinates.
-#[derive(Drop)]
-pub struct CouplingRead {
+#[derive(Clone, Copy)]
+pub struct Coupled {
     pub coupling: Coupling,
     pub cplcoe: [bool; 5],
-    pub cursor: Cursor,
 }
 
 // Coupling strategy and coordinates, and rematrixing.
 fn coupling_section(
-    s: &[u8],
-    rows: &mut [i32],
-    c: Cursor,
+    r: &mut Reader<'_>,
     blk: u8,
     acmod: u8,
     old: Coupling,
-) -> CouplingRead
+) -> Result<Coupled, Refusal>
     requires { SoundCoupling old × SoundBands old }
-    ensures reads { Reads (grammar.coupling_section blk acmod old) s.now c rows.old (record { coupling = result.coupling; cplcoe = result.cplcoe }) result.cursor rows.new }
-    ensures sound_coupling { SoundCoupling result.coupling × SoundBands result.coupling }
+    ensures reads { Reads (grammar.coupling_section blk acmod old) r.old (with_lent (λ c. record { coupling = c.coupling; cplcoe = c.cplcoe }) result) r.new }
+    ensures sound_coupling { IfOk result (λ c. SoundCoupling c.coupling × SoundBands c.coupling) }
 {
     let n = nfchans(acmod);
-    let strategy = coupling_strategy(s, rows, c, blk, acmod, n, old);
-    let coupling = strategy.coupling;
-    let coordinates = coupling_coordinates(s, rows, strategy.cursor, blk, n, coupling);
-    let cplcoe = coordinates.set;
-    let cursor = rematrixing(s, rows, coordinates.cursor, blk, acmod, coupling);
-    CouplingRead {
-        coupling,
-        cplcoe,
-        cursor,
-    }
+    let coupling = coupling_strategy(r, blk, acmod, n, old)?;
+    let cplcoe = coupling_coordinates(r, blk, n, coupling)?;
+    rematrixing(r, blk, acmod, coupling)?;
+    Ok(Coupled { coupling, cplcoe })
 }
 
-// The bandwidths in force and where each channel ends, and the bins that the exponents in force cover. The exponents themselves are lent.
-#[derive(Drop)]
-pub struct ExponentedRead {
+// The strategies of a block, the bandwidths in force, where each channel ends, and the bins that the exponents in force cover. The exponents
+// themselves are lent.
+#[derive(Clone, Copy)]
+pub struct Exponented {
     pub strategies: Strategies,
     pub bandwidths: Bandwidths,
     pub ends: [usize; 5],
     pub cover: Cover,
-    pub cursor: Cursor,
 }
 
 // Exponent strategies, bandwidths and exponents.
 fn exponent_section(
-    s: &[u8],
-    rows: &mut [i32],
-    c: Cursor,
+    r: &mut Reader<'_>,
     exps: &mut [[i16; 256]; 7],
     blk: u8,
     header: Header,
     coupling: Coupling,
     old: Bandwidths,
     cover: Cover,
-) -> ExponentedRead
+) -> Result<Exponented, Refusal>
     requires { SoundCoupling coupling × SoundBandwidths old × SoundExps exps.old }
-    ensures reads { Reads (grammar.exponent_section blk header coupling old (record { cover = cover; exps = exps.old })) s.now c rows.old
-        (record { strategies = result.strategies; bandwidths = result.bandwidths; ends = result.ends; exponents = record { cover = result.cover; exps = exps.new } }) result.cursor rows.new }
-    ensures sound_bandwidths { SoundBandwidths result.bandwidths × SoundEnds result.ends × SoundExps exps.new }
-    ensures keeps { Keeps (ReusedBy result.strategies) exps.old exps.new }
+    ensures reads { Reads (grammar.exponent_section blk header coupling old (record { cover = cover; exps = exps.old })) r.old
+        (with_lent (λ e. record { strategies = e.strategies; bandwidths = e.bandwidths; ends = e.ends; exponents = record { cover = e.cover; exps = exps.new } }) result) r.new }
+    ensures sound_bandwidths { IfOk result (λ e. SoundBandwidths e.bandwidths × SoundEnds e.ends) }
+    ensures sound_exps { SoundExps exps.new }
+    ensures keeps { IfOk result (λ e. Keeps (ReusedBy e.strategies) exps.old exps.new) }
 {
-    let lfeon = header.lfeon;
     let n = nfchans(header.acmod);
-    let expstr = exponent_strategies(s, rows, c, blk, n, coupling.cplinu, lfeon);
-    let strategies = expstr.strategies;
-    let chexpstr = strategies.chexpstr;
-    let chbwcod = bandwidths(s, rows, expstr.cursor, blk, n, coupling, chexpstr, old);
-    let bandwidths = chbwcod.bandwidths;
-    let past = channel_ends(chbwcod.cursor, n, coupling, bandwidths);
-    let ends = past.ends;
+    let strategies = exponent_strategies(r, blk, n, coupling.cplinu, header.lfeon)?;
+    let bandwidths = bandwidths(r, blk, n, coupling, strategies.chexpstr, old)?;
+    let ends = channel_ends(n, coupling, bandwidths)?;
     let layout = Layout {
         blk,
         nfchans: n,
-        lfeon,
+        lfeon: header.lfeon,
         coupling,
         strategies,
         ends,
     };
-    let read = exponents(s, rows, past.cursor, exps, layout, cover);
-    let cover = read.cover;
-    let cursor = read.cursor;
-    ExponentedRead {
+    let cover = exponents(r, exps, layout, cover)?;
+    Ok(Exponented {
         strategies,
         bandwidths,
         ends,
         cover,
-        cursor,
-    }
+    })
 }
 
 // ---- the whole block
 
-#[derive(Drop)]
-pub struct AllocRead {
-    pub alloc: AllocState,
-    pub cursor: Cursor,
-}
-
 // Bit allocation information, as far as the skip field.
 fn alloc_state(
-    s: &[u8],
-    rows: &mut [i32],
-    c: Cursor,
+    r: &mut Reader<'_>,
     blk: u8,
     nfchans: u8,
     cplinu: bool,
     lfeon: bool,
     old: AllocState,
-) -> AllocRead
+) -> Result<AllocState, Refusal>
     requires nfchans_bound { nfchans ≤ 5 }
     requires sound_alloc { SoundAlloc old }
-    ensures reads { Reads (grammar.alloc_state blk nfchans cplinu lfeon old) s.now c rows.old result.alloc result.cursor rows.new }
-    ensures sound_alloc_2 { SoundAlloc result.alloc }
+    ensures reads { Reads (grammar.alloc_state blk nfchans cplinu lfeon old) r.old result r.new }
+    ensures sound_alloc_2 { IfOk result SoundAlloc }
 {
-    let one = curve(s, rows, c, blk, old.curve);
-    let two = offsets(
-        s,
-        rows,
-        one.cursor,
-        blk,
-        nfchans,
-        cplinu,
-        lfeon,
-        old.offsets,
-    );
-    let three = coupling_leak(s, rows, two.cursor, blk, cplinu, old.leak);
-    let segments = old.deltas;
-    let four = deltas(s, rows, three.cursor, blk, nfchans, cplinu, segments);
-    let curve = one.curve;
-    let offsets = two.offsets;
-    let leak = three.leak;
-    let deltas = four.deltas;
-    let cursor = four.cursor;
-    AllocRead {
-        alloc: AllocState {
-            curve,
-            offsets,
-            leak,
-            deltas,
-        },
-        cursor,
-    }
+    let curve = curve(r, blk, old.curve)?;
+    let offsets = offsets(r, blk, nfchans, cplinu, lfeon, old.offsets)?;
+    let leak = coupling_leak(r, blk, cplinu, old.leak)?;
+    let deltas = deltas(r, blk, nfchans, cplinu, old.deltas)?;
+    Ok(AllocState {
+        curve,
+        offsets,
+        leak,
+        deltas,
+    })
 }
 
-// Beside the tally stands which channels have had coordinates while they were coupled.
+// What a block leaves to the next one, the tally so far, and which channels have had coordinates while they were coupled.
 #[derive(Drop)]
-pub struct BlockRead {
+pub struct Left {
     pub state: State,
     pub tally: Tally,
     pub had: [bool; 5],
-    pub cursor: Cursor,
 }
 
 // The exponents in force stand beside the state, and so does what was counted of the slots before. Whatever the blocks before were, if `had`
 // and the tally tell of them whether coordinates were sent, they do so of those blocks and this one.
 pub fn audio_block(
-    s: &[u8],
-    rows: &mut [i32],
-    c: Cursor,
+    r: &mut Reader<'_>,
     exps: &mut [[i16; 256]; 7],
     memos: &mut [[u32; 16]; 7],
     header: Header,
@@ -341,74 +253,52 @@ pub fn audio_block(
     old: State,
     tally: Tally,
     had: [bool; 5],
-) -> BlockRead
+) -> Result<Left, Refusal>
     requires blk_bound { (blk < 6) × (tally.coupled ≤ blk) }
     requires sound_header { SoundHeader header }
     requires sound_state { SoundState old }
     requires sound_exps { SoundExps exps.old }
     requires kept { Kept header.fscod memos.old exps.old }
     ensures reads { (earlier : List Sending) → Tallied earlier tally.coordinates had → (this : Sending)
-        × Reads (grammar.audio_block header blk (record { state = old; exps = exps.old; tally = tally; blocks = earlier }))
-        s.now c rows.old
-        (record { state = result.state; exps = exps.new; tally = result.tally; blocks = earlier ++ this ∷ [] }) result.cursor rows.new
-        × Tallied (earlier ++ this ∷ []) result.tally.coordinates result.had }
-    ensures sound_state_2 { SoundState result.state }
+        × Reads (grammar.audio_block header blk (record { state = old; exps = exps.old; tally = tally; blocks = earlier })) r.old
+        (with_lent (λ left. record { state = left.state; exps = exps.new; tally = left.tally; blocks = earlier ++ this ∷ [] }) result) r.new
+        × IfOk result (λ left. Tallied (earlier ++ this ∷ []) left.tally.coordinates left.had) }
+    ensures sound_state_2 { IfOk result (λ left. SoundState left.state) }
     ensures sound_exps_2 { SoundExps exps.new }
-    ensures coupled_bound { result.tally.coupled ≤ blk + 1 }
-    ensures kept_2 { Kept header.fscod memos.new exps.new }
+    ensures coupled_bound { IfOk result (λ left. left.tally.coupled ≤ blk + 1) }
+    ensures kept_2 { IfOk result (λ left. Kept header.fscod memos.new exps.new) }
 {
-    let start = c.at;
-    let acmod = header.acmod;
-    let lfeon = header.lfeon;
-    let n = nfchans(acmod);
-    let settings = channel_settings(s, rows, c, blk, acmod);
-    let coupled = coupling_section(s, rows, settings, blk, acmod, old.coupling);
+    let start = r.at;
+    let n = nfchans(header.acmod);
+    channel_settings(r, blk, header.acmod)?;
+    let coupled = coupling_section(r, blk, header.acmod, old.coupling)?;
     let coupling = coupled.coupling;
-    let cplinu = coupling.cplinu;
-    let read = exponent_section(
-        s,
-        rows,
-        coupled.cursor,
-        exps,
-        blk,
-        header,
-        coupling,
-        old.bandwidths,
-        old.cover,
-    );
-    let strategies = read.strategies;
+    let read = exponent_section(r, exps, blk, header, coupling, old.bandwidths, old.cover)?;
     let bandwidths = read.bandwidths;
-    let ends = read.ends;
-    let cover = read.cover;
-    let bai = alloc_state(s, rows, read.cursor, blk, n, cplinu, lfeon, old.alloc);
-    let alloc = bai.alloc;
-    let at = skip_field(s, rows, bai.cursor, blk);
+    let alloc = alloc_state(r, blk, n, coupling.cplinu, header.lfeon, old.alloc)?;
+    skip_field(r, blk)?;
     let block = Block {
         blk,
         fscod: header.fscod,
         nfchans: n,
-        lfeon,
+        lfeon: header.lfeon,
         coupling,
-        strategies,
-        ends,
+        strategies: read.strategies,
+        ends: read.ends,
     };
-    let mant = mantissas(rows, at, block, alloc, exps, memos);
-    let bits = mant.bits;
-    let cursor = mant.cursor;
+    let spanned = mantissas(r, block, alloc, exps, memos)?;
     let chincpl = coupling.chincpl;
-    let cplcoe = coupled.cplcoe;
-    let had = had_by_now(had, chincpl, cplcoe);
+    let had = had_by_now(had, chincpl, coupled.cplcoe);
     let sent = sent_so_far(tally.coordinates, chincpl, had);
-    let tally = counted(blk, start, mant.start, bits, cplinu, sent, tally);
-    BlockRead {
+    let tally = counted(blk, start, spanned.start, spanned.bits, coupling.cplinu, sent, tally);
+    Ok(Left {
         state: State {
             coupling,
             bandwidths,
-            cover,
+            cover: read.cover,
             alloc,
         },
         tally,
         had,
-        cursor,
-    }
+    })
 }

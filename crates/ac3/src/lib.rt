@@ -5,27 +5,25 @@ pub mod apart;
 mod audio;
 mod block;
 
-ghost use Rattle.std.specs.Prelude.{◌≡◌, ◌<◌};
+ghost use Rattle.std.specs.Prelude.{◌≡◌};
 ghost use Rattle.syntax.specs.Place.{exec, fresh};
-ghost use Rattle.syntax.specs.Reads.{Goes, place};
-ghost use Rattle.header.specs.Sound.{SoundHeader};
+ghost use Rattle.syntax.specs.Reads.{Reads, with_lent};
+ghost use Rattle.syntax.specs.Refusals as told;
 ghost use Rattle.ac3.specs.Frame as grammar;
 ghost use Rattle.ac3.specs.Promise.{call, Promised};
 ghost use Rattle.ac3.specs.Within.{Within};
 
 use channels::Bandwidths;
-use header::Header;
+use header::{Header, NO_HEADER};
 use slots::{AllocState, Coupling, Cover};
-use syntax::cursors::{START, halt};
-use syntax::refusals::TOO_SHORT;
-use syntax::{Cursor, NONE};
+use syntax::{NONE, Reader, Refusal};
 
 // No frame has more rows: so many occur with five channels and LFE, two of the channels coupled from the lowest sub-band on, all sent anew
 // in every block, and eight delta segments for each (`most_rows`, specs/RowBound). With room for these no frame is refused for want of room.
 pub const MOST_ROWS: usize = 4067;
 
 // All that a block leaves to the next one, besides the exponents.
-#[derive(Drop)]
+#[derive(Clone, Copy)]
 pub struct State {
     pub coupling: Coupling,
     pub bandwidths: Bandwidths,
@@ -70,7 +68,7 @@ pub struct Answer {
 
 // What is answered of a header by itself. Refusal 0: it was read to its end, and the bit is the first one after it. A refusal's header is
 // all zeros.
-#[derive(Clone, Copy)]
+#[derive(Clone, Copy, PartialEq, Eq)]
 pub struct HeaderAnswer {
     pub refusal: u8,
     pub rows: usize,
@@ -80,27 +78,20 @@ pub struct HeaderAnswer {
     pub header: Header,
 }
 
-// The answer where reading stopped: its summary is all zeros.
-fn refused(c: Cursor) -> Answer
-    requires { c.stop.number < 256 }
-    ensures { result ≡ record { refusal = c.stop.number; rows = c.count; bit = c.at; name = c.stop.name; block = c.stop.block; summary = grammar.no_summary } }
+// The answer where reading stopped, after so many rows and at this bit: its summary is all zeros.
+fn refused(refusal: Refusal, rows: usize, bit: u16) -> Answer
+    ensures { result ≡ record { refusal = told.number refusal; rows = rows; bit = bit; name = told.name refusal; block = told.block refusal; summary = grammar.no_summary } }
 {
     Answer {
-        refusal: c.stop.number as u8,
-        rows: c.count,
-        bit: c.at,
-        name: c.stop.name,
-        block: c.stop.block,
+        refusal: refusal.number(),
+        rows,
+        bit,
+        name: refusal.name(),
+        block: refusal.block(),
         summary: Summary {
             rows: 0,
             end: 0,
-            header: Header {
-                bytes: 0,
-                fscod: 0,
-                bsid: 0,
-                acmod: 0,
-                lfeon: false,
-            },
+            header: NO_HEADER,
             tally: Tally {
                 coupled: 0,
                 coordinates: false,
@@ -112,45 +103,36 @@ fn refused(c: Cursor) -> Answer
     }
 }
 
-// The six blocks of a frame whose header was just read: the cursor stands behind it.
-fn blocks_after(s: &[u8], rows: &mut [i32], c: Cursor, header: Header) -> Answer
-    requires { Goes c × SoundHeader header }
-    ensures { (result, rows.new) ≡ grammar.answered (exec (grammar.audio header) s.now (place c rows.old)) }
+// The header, which ends the frame where it is refused, and then the blocks.
+fn frame(r: &mut Reader<'_>) -> Result<(Header, Tally), Refusal>
+    ensures { Reads grammar.syncframe r.old (with_lent (λ read. record { header = read.0; tally = read.1; end = r.new.at }) result) r.new }
 {
-    let read = audio::audio(s, rows, c, header);
-    let tally = read.tally;
-    let cursor = read.cursor;
-    if cursor.stop.number != 0 {
-        return refused(cursor);
-    }
-    let count = cursor.count;
-    let end = cursor.at;
-    Answer {
-        refusal: 0,
-        rows: count,
-        bit: end,
-        name: 0,
-        block: NONE,
-        summary: Summary {
-            rows: count,
-            end,
-            header,
-            tally,
-        },
-    }
+    let header = header::read(r)?;
+    let tally = audio::audio(r, header)?;
+    Ok((header, tally))
 }
 
-// The frame at the start of s: the header, which ends it where it is refused, and then the blocks.
+// The frame at the start of s.
 fn syncframe(s: &[u8], rows: &mut [i32]) -> Answer
     ensures { (result, rows.new) ≡ grammar.answered (exec grammar.syncframe s.now (fresh rows.old)) }
 {
-    let head = header::read(s, rows, START);
-    let header = head.header;
-    let cursor = head.cursor;
-    if cursor.stop.number != 0 {
-        return refused(cursor);
+    let mut r = Reader::new(s, rows);
+    match frame(&mut r) {
+        Err(refusal) => refused(refusal, r.count, r.at),
+        Ok((header, tally)) => Answer {
+            refusal: 0,
+            rows: r.count,
+            bit: r.at,
+            name: 0,
+            block: NONE,
+            summary: Summary {
+                rows: r.count,
+                end: r.at,
+                header,
+                tally,
+            },
+        },
     }
-    blocks_after(s, rows, cursor, header)
 }
 
 // The frame that starts at a place of a capture: its rows go to the front of the room. Past the capture's end there is nothing, which is
@@ -161,7 +143,7 @@ pub fn parse(capture: &[u8], place: usize, rows: &mut [i32]) -> Answer
     ensures within { Within (call capture.now place rows.old) result rows.new }
 {
     if capture.len() < place {
-        return refused(halt(START, TOO_SHORT));
+        return refused(Refusal::TooShort, 0, 0);
     }
     syncframe(&capture[place..], rows)
 }

@@ -14,7 +14,7 @@ use syntax::readers::refuse_if;
 use syntax::{Reader, Refusal, Role};
 
 // What a frame's header says of its blocks.
-#[derive(Clone, Copy)]
+#[derive(Clone, Copy, PartialEq, Eq)]
 pub struct Header {
     pub bytes: u16,
     pub fscod: u8,
@@ -22,6 +22,15 @@ pub struct Header {
     pub acmod: u8,
     pub lfeon: bool,
 }
+
+// What is told where a header is refused. (Public for the answers, in the crate above.)
+pub const NO_HEADER: Header = Header {
+    bytes: 0,
+    fscod: 0,
+    bsid: 0,
+    acmod: 0,
+    lfeon: false,
+};
 
 // ---- syncinfo
 

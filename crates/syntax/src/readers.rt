@@ -1,7 +1,8 @@
 // The reader's methods: where it starts, what it refuses, and one for each kind of element.
 ghost use Rattle.std.specs.Prelude.{◌≡◌, cond, ◌<◌, ◌≤◌, ◌^◌, IfOk, Ok, Err};
 ghost use Rattle.syntax.specs.Grammar as grammar;
-ghost use Rattle.syntax.specs.Reads.{Reads};
+ghost use Rattle.syntax.specs.Place.{fresh};
+ghost use Rattle.syntax.specs.Reads.{Reads, place};
 
 use crate::{Item, Reader, Refusal};
 
@@ -10,6 +11,23 @@ pub fn refuse_if(bad: bool, refusal: Refusal) -> Result<(), Refusal>
     ensures { result ≡ cond bad (Err refusal) (Ok tt) }
 {
     if bad { Err(refusal) } else { Ok(()) }
+}
+
+impl<'a> Reader<'a> {
+    // At the start of a frame: nothing may be read until its size is known.
+    pub fn new(bytes: &'a [u8], rows: &'a mut [i32]) -> Reader<'a>
+        ensures start { place result ≡ fresh rows.old }
+        ensures bytes { result.bytes.now ≡ bytes.now }
+        ensures lent { result.rows.ghost_name ≡ rows.entry.ghost_name }
+    {
+        Reader {
+            bytes,
+            rows,
+            count: 0,
+            at: 0,
+            limit: 0,
+        }
+    }
 }
 
 impl Reader<'_> {

@@ -8,7 +8,7 @@ use native.Mathlib.Omega.{arith}
 use lib.IntN.{ℤ}
 use lib.ListN.{length}
 use Rattle.syntax.specs.Place.{Place, finish}
-use Rattle.syntax.specs.Refusals.{full}
+use Rattle.syntax.specs.Refusals.{full, number, name, block}
 use Rattle.syntax.specs.Run.{End, reached, refused, start, parse, rows_of}
 use Rattle.syntax.proofs.Agreement.{landed, exec_parse}
 use Rattle.header.specs.Header.{header}
@@ -28,7 +28,7 @@ headed_is c = ap headed (exec_parse header (input c) c.room)
 elsewhere : (e : End Header) (q p : Place) → q.at ≡ p.at → q.count ≡ p.count → (headed (finish e q)).0 ≡ (headed (finish e p)).0
 unfolding headed finish
 elsewhere (reached h) q p at count = λ i. record { refusal = 0; rows = count i; bit = at i; name = 0; block = 255; header = h }
-elsewhere (refused x) q p at count = λ i. record { refusal = x.number; rows = count i; bit = at i; name = x.name; block = x.block; header = no_header }
+elsewhere (refused x) q p at count = λ i. record { refusal = number x; rows = count i; bit = at i; name = name x; block = block x; header = no_header }
 
 module _ (s : List ℕ) (room own : List ℤ) where
   abbrev answer : ℕ → List ℤ → HeaderAnswer

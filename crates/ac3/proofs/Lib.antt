@@ -11,7 +11,6 @@ pub mod Unfitting
 pub mod Rooms
 pub mod Parts
 pub mod MoreRoom
-pub mod Numbered
 pub mod Useless
 pub mod Coordinates
 pub mod OneAnswer

@@ -12,7 +12,7 @@ use Rattle.bits.specs.Bits.{value}
 use Rattle.syntax.specs.declared.Item.{Item}
 use Rattle.syntax.specs.Grammar.{Grammar, done, refuse, field, free, span, walk, frame, here}
 use Rattle.syntax.specs.Place.{Place, flatten, finish}
-use Rattle.syntax.specs.Refusals.{past, full}
+use Rattle.syntax.specs.Refusals.{past, full, number}
 use Rattle.syntax.specs.Run.{Row, Spot, End, reached, refused, Result, Check, clear, stop, room_check, check, row_check, walk_check, frame_check, sum, unless, run, start, parse, ◌after◌, beyond, within}
 use Rattle.syntax.proofs.Checks.{room_some, clear_room}
 use Rattle.ac3.specs.Frame.{Audio, syncframe, answered}
@@ -115,7 +115,7 @@ answers_of c d same =
 seven_told : (e : End Audio) (q : Place) → e ≡ refused full → (answered (finish e q)).0.refusal ≡ 7
 unfolding answered finish
 seven_told (reached a) q is = let z : ◌≡◌ {A = ℕ} 0 1 = cc in absurd (omega arith)
-seven_told (refused x) q is = let same : x ≡ full = cc in ap (λ y. y.number) same
+seven_told (refused x) q is = let same : x ≡ full = cc in ap (λ y. (number y)) same
 
 seven : (c : Call) → (result c).end ≡ refused full → (answer_to c).0.refusal ≡ 7
 seven c is = ap (λ x. x.0.refusal) (answer_is c) ∙ seven_told (result c).end (landed (result c) c.room) is

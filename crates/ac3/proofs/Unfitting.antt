@@ -2,6 +2,7 @@
 use mathlib.Core.Path.{◌≡◌, refl, ap, sym, subst, ◌∙◌}
 use native.Mathlib.Omega.{arith}
 use Rattle.syntax.specs.Run.{End, reached, refused}
+use Rattle.syntax.specs.Refusals.{number}
 use Rattle.syntax.specs.Unfitting.{Next}
 use Rattle.ac3.specs.Frame.{Audio}
 use Rattle.ac3.specs.Promise.{Call, input, room_for, Reaches, refusal_of, answer_to}
@@ -19,7 +20,7 @@ module _ (c : Call) where
           absurd (omega (arith, six, (promised c refl).complete ok))
       go (refused x) is =
           let told : refusal_of (answer_to c).0 ≡ x = (promised c refl).which x is in
-          subst (Next (unlimited c) (result c)) (sym told) (frame_unfitting.next (input c) (room_for c) x is (ap (λ y. y.number) (sym told) ∙ six))
+          subst (Next (unlimited c) (result c)) (sym told) (frame_unfitting.next (input c) (room_for c) x is (ap (λ y. (number y)) (sym told) ∙ six))
 
 pub what_did_not_fit : WhatDidNotFit
 what_did_not_fit = record { next = next_row; others = λ c. (promised c refl).others }

@@ -2,7 +2,7 @@
 -- that the whole parse is both in turn, and that exactly the header's own answer is taken.
 use Rattle.std.specs.Prelude.{Bool, false, ◌&&◌, not, cond, List, ℕ, eqb, ℤ}
 use Rattle.syntax.specs.declared.Refusal.{Refusal}
-use Rattle.syntax.specs.Refusals.{going}
+use Rattle.syntax.specs.Refusals.{number, name, block}
 use Rattle.syntax.specs.Place.{Place, Outcome, got, no, exec, and_then, fresh}
 use Rattle.header.specs.Header.{header}
 use Rattle.header.specs.declared.Header.{Header}
@@ -19,12 +19,15 @@ most_header_rows = 44
 abbrev pub no_header : Header
 no_header = record { bytes = 0; fscod = 0; bsid = 0; acmod = 0; lfeon = false }
 
-abbrev pub header_at : Place → Refusal → Header → HeaderAnswer
-header_at p x h = record { refusal = x.number; rows = p.count; bit = p.at; name = x.name; block = x.block; header = h }
+abbrev pub header_read_at : Place → Header → HeaderAnswer
+header_read_at p h = record { refusal = 0; rows = p.count; bit = p.at; name = 0; block = 255; header = h }
+
+abbrev pub header_refused_at : Place → Refusal → HeaderAnswer
+header_refused_at p x = record { refusal = number x; rows = p.count; bit = p.at; name = name x; block = block x; header = no_header }
 
 unfoldable pub headed : Outcome Header → HeaderAnswer × List ℤ
-headed (got h p) = (header_at p going h, p.room)
-headed (no x p) = (header_at p x no_header, p.room)
+headed (got h p) = (header_read_at p h, p.room)
+headed (no x p) = (header_refused_at p x, p.room)
 
 -- the header at a call's place, and the room after it
 abbrev pub header_to : Call → HeaderAnswer × List ℤ

@@ -1,7 +1,7 @@
 -- A frame up to the end of its audio: the header and six blocks; and the answer to a call.
 use Rattle.std.specs.Prelude.{true, false, List, [], ℕ, ℤ, pos, replicate, drop}
 use Rattle.syntax.specs.declared.Refusal.{Refusal}
-use Rattle.syntax.specs.Refusals.{going}
+use Rattle.syntax.specs.Refusals.{number, name, block}
 use Rattle.syntax.specs.Grammar.{Grammar, done, ◌>>=◌, position, for}
 use Rattle.syntax.specs.Place.{Place, Outcome, got, no, exec, fresh}
 use Rattle.header.specs.Header.{header}
@@ -71,13 +71,16 @@ no_summary =
       tally = record { coupled = 0; coordinates = false; starts = replicate 6 0; mantissas = replicate 6 0; bits = replicate slot_counts 0 };
     }
 
--- a refusal is told by its three numbers, and of what is accepted those of `going`
-abbrev pub answer_at : Place → Refusal → Summary → Answer
-answer_at p x summary = record { refusal = x.number; rows = p.count; bit = p.at; name = x.name; block = x.block; summary = summary }
+-- a refusal is told by its three numbers, and what is accepted by 0, no name and no block
+abbrev pub accepted_at : Place → Summary → Answer
+accepted_at p summary = record { refusal = 0; rows = p.count; bit = p.at; name = 0; block = 255; summary = summary }
+
+abbrev pub answer_at : Place → Refusal → Answer
+answer_at p x = record { refusal = number x; rows = p.count; bit = p.at; name = name x; block = block x; summary = no_summary }
 
 unfoldable pub answered : Outcome Audio → Answer × List ℤ
-answered (got a p) = (answer_at p going (summary_of p.count a), p.room)
-answered (no x p) = (answer_at p x no_summary, p.room)
+answered (got a p) = (accepted_at p (summary_of p.count a), p.room)
+answered (no x p) = (answer_at p x, p.room)
 
 -- the frame at this byte of a capture: past the end there is nothing, which is too short
 abbrev pub answer : (capture : List ℕ) (place : ℕ) (room : List ℤ) → Answer × List ℤ

@@ -5,6 +5,7 @@
 use Rattle.std.specs.Prelude.{Bool, true, false, not, ◌&&◌, ◌||◌, List, [], ◌∷◌, ℕ, T, eqb, leb}
 use Rattle.syntax.specs.declared.Item.{Item}
 use Rattle.syntax.specs.declared.Refusal.{Refusal}
+use Rattle.syntax.specs.Refusals.{number}
 use Rattle.syntax.specs.declared.Role.{Role}
 use Rattle.syntax.specs.Grammar.{Grammar, done, refuse, field, free, span, walk, frame, here}
 use Rattle.syntax.specs.Run.{Kind, steering, unsteering, spanning, Row, Check, clear, stop, End, reached, refused}
@@ -56,20 +57,20 @@ number_fits n = leb 1 n && leb n 23
 -- a refusal, if it is one, is numbered
 abbrev pub StopFits : Check → Type 0
 StopFits clear = Unit {0}
-StopFits (stop x bit) = T (number_fits x.number)
+StopFits (stop x bit) = T (number_fits (number x))
 
 abbrev pub EndFits : {A : Type 0} → End A → Type 0
 EndFits (reached a) = Unit {0}
-EndFits (refused x) = T (number_fits x.number)
+EndFits (refused x) = T (number_fits (number x))
 
 -- every field that the grammar can meet is of its name's and its role's kind, and every refusal is numbered and judged; and whether anything
 -- may be walked
 pub data Marked {A : Type 0} (walks : Bool) : Grammar A → Type 0 where
   m_done : {a : A} → Marked walks (done a)
-  m_refuse : {x : Refusal} → T (number_fits x.number) → T (is_judged x) → Marked walks (refuse x)
+  m_refuse : {x : Refusal} → T (number_fits (number x)) → T (is_judged x) → Marked walks (refuse x)
   m_field : {i : Item} {w : ℕ} {k : ℕ → Grammar A} → T (kind_fits steering i.name) → T (role_fits steering i.role) → ((v : ℕ) → Marked walks (k v)) → Marked walks (field i w k)
   m_free : {i : Item} {w : ℕ} {k : Grammar A} → T (kind_fits unsteering i.name) → T (role_fits unsteering i.role) → T (width_fits unsteering w) → Marked walks k → Marked walks (free i w k)
   m_span : {i : Item} {w : ℕ} {k : Grammar A} → T (kind_fits spanning i.name) → T (not (eqb i.name Name.mantissas)) → T (role_fits spanning i.role) → Marked walks k → Marked walks (span i w k)
   m_walk : {i : Item} {ws : List ℕ} {k : Grammar A} → T walks → T (kind_fits spanning i.name) → T (role_fits spanning i.role) → Marked walks k → Marked walks (walk i ws k)
-  m_frame : {x : Refusal} {n : ℕ} {k : Grammar A} → T (number_fits x.number) → T (is_judged x) → Marked walks k → Marked walks (frame x n k)
+  m_frame : {x : Refusal} {n : ℕ} {k : Grammar A} → T (number_fits (number x)) → T (is_judged x) → Marked walks k → Marked walks (frame x n k)
   m_here : {k : ℕ → Grammar A} → ((at : ℕ) → Marked walks (k at)) → Marked walks (here k)

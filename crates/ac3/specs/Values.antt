@@ -3,7 +3,7 @@ use Rattle.std.specs.Prelude.{true, false, List, [], ◌∷◌, map, ◌≡◌, 
 use Rattle.bits.specs.Bits.{value}
 use Rattle.tables.specs.Tables.{frame_bytes}
 use Rattle.alloc.specs.Allocation.{logadd, snr_offset, band_of, delta_of}
-use Rattle.syntax.specs.Refusals.{judged, too_short}
+use Rattle.syntax.specs.Refusals.{too_short, bad_group, bad_coupling_range}
 use Rattle.syntax.specs.Grammar.{◌>>◌, plain, framed}
 use Rattle.syntax.specs.Run.{sum, End, reached, refused, parse}
 use Rattle.slots.specs.Slots.{sub_bands, first_coupled, past_coupled, past_channel}
@@ -42,14 +42,14 @@ ValuesOnEachSide =
     × (value (0x0B ∷ 0x77 ∷ []) 5 7 ≡ 55)
     -- (c) groups 124, 62 and 125: their steps, and what they make after an exponent of 10
     × (steps 124 ∷ steps 62 ∷ [] ≡ (pos 2 ∷ pos 2 ∷ pos 2 ∷ []) ∷ (pos 0 ∷ pos 0 ∷ pos 0 ∷ []) ∷ [])
-    × (grouped 124 ∷ grouped 62 ∷ grouped 125 ∷ [] ≡ unpacked 12 14 16 ∷ unpacked 10 10 10 ∷ refused (judged 16) ∷ [])
+    × (grouped 124 ∷ grouped 62 ∷ grouped 125 ∷ [] ≡ unpacked 12 14 16 ∷ unpacked 10 10 10 ∷ refused bad_group ∷ [])
     -- (d) the end for chbwcod 1, and the groups of D15, D25 and D45
     × (past_channel 1 ∷ group_count 0 1 0 76 ∷ group_count 0 2 0 76 ∷ group_count 0 3 0 76 ∷ [] ≡ 76 ∷ 25 ∷ 13 ∷ 7 ∷ [])
     -- (e) bands of bins
     × (map band_of (27 ∷ 28 ∷ 30 ∷ 31 ∷ 252 ∷ []) ≡ 27 ∷ 28 ∷ 28 ∷ 29 ∷ 49 ∷ [])
     -- (f) cplbegf 5 and cplendf 3: sub-bands, first bin, first bin past; cplbegf 6 is refused with 9
     × (sub_bands 5 3 ∷ first_coupled 5 ∷ past_coupled 3 ∷ [] ≡ 1 ∷ 97 ∷ 109 ∷ [])
-    × (strategy 5 3 ∷ strategy 6 3 ∷ [] ≡ reached (coupled_from 5 3) ∷ refused (judged 9) ∷ [])
+    × (strategy 5 3 ∷ strategy 6 3 ∷ [] ≡ reached (coupled_from 5 3) ∷ refused bad_coupling_range ∷ [])
     -- (g) SNR offsets
     × (snr_offset 0 0 ∷ snr_offset 15 0 ∷ snr_offset 63 15 ∷ [] ≡ negsuc 959 ∷ pos 0 ∷ pos 3132 ∷ [])
     -- (h) deltas

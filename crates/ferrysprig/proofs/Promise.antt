@@ -13,6 +13,7 @@ use Rattle.tables.specs.Tables.{nfchans}
 use Rattle.alloc.specs.Allocation.{from}
 use Rattle.alloc.proofs.Noted.{from_at, from_length}
 use Rattle.syntax.specs.Numbers.{shown}
+use Rattle.syntax.specs.Refusals.{number}
 use Rattle.syntax.specs.Run.{Row}
 use Rattle.mantissas.specs.BySlot.{Unused}
 use Rattle.ac3.specs.Frame.{slot_counts, summary_of}
@@ -95,7 +96,7 @@ of_answer c a after kept within =
       numbered = (a.refusal, refl, kept.numbered);
       sound = λ e. kept.sound (same e);
       complete = λ ok. ap pos (kept.complete ok);
-      which = λ x e. ap (λ y. pos y.number) (kept.which x e);
+      which = λ x e. ap (λ y. pos (number y)) (kept.which x e);
       next = λ e. next_told c a after kept (same e);
       others = λ h. let (name, block) = kept.others (λ six. h (ap pos six)) in (ap pos name, ap shown block);
       written = kept.written;

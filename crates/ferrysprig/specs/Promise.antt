@@ -5,6 +5,7 @@ use Rattle.tables.specs.Tables.{nfchans}
 use Rattle.syntax.specs.Numbers.{row_width, numbers}
 use Rattle.syntax.specs.Place.{flatten}
 use Rattle.syntax.specs.declared.Refusal.{Refusal}
+use Rattle.syntax.specs.Refusals.{number}
 use Rattle.syntax.specs.Rows.{Tiles}
 use Rattle.syntax.specs.Run.{Row, refused, parse}
 use Rattle.mantissas.specs.BySlot.{Unused}
@@ -64,7 +65,7 @@ pub record PromisedNumbers (c : Call) (ns after : List ℤ) : Type 0 where
   -- accepted exactly when the definition reaches audio_end within frame and room, and else refused with its number
   pub sound : refusal_in ns ≡ pos 0 → Reaches c
   pub complete : Reaches c → refusal_in ns ≡ pos 0
-  pub which : (x : Refusal) → (parse syncframe (input c) (room_for c)).end ≡ refused x → refusal_in ns ≡ pos x.number
+  pub which : (x : Refusal) → (parse syncframe (input c) (room_for c)).end ≡ refused x → refusal_in ns ≡ pos (number x)
   -- refusal 6: name and block are those of the row that the definition would have written next; else they are 0 and -1
   pub next : refusal_in ns ≡ pos 6 → (row : Row) × (later : List Row) × (unlimited c ≡ listed c ++ row ∷ later) × TellsRow ns row
   pub others : ¬ (refusal_in ns ≡ pos 6) → (name_in ns ≡ pos 0) × (block_in ns ≡ negsuc 0)

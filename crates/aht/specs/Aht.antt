@@ -1,10 +1,12 @@
 -- The adaptive hybrid transform's part of a channel (E.1.2.4, E.2.4.2, E.2.4.4.2): gain words, then vector indices and mantissas of all six
 -- blocks, bin by bin. Mantissa values steer the length: where one is a tag, the mantissa that it stands for follows.
-use Rattle.std.specs.Prelude.{Bool, ◌&&◌, cond, List, [], ◌∷◌, ℕ, zero, suc, ◌+◌, ◌-◌, ◌*◌, ◌/◌, ◌%◌, ◌^◌, min, eqb, ltb, length, get_or, drop}
+use Rattle.std.specs.Prelude.{Bool, ◌&&◌, cond, List, [], ◌∷◌, ℕ, zero, suc, ◌+◌, ◌-◌, ◌*◌, ◌/◌, ◌%◌, ◌^◌, min, eqb, ltb, length, get_or, drop, Result, Ok, Err}
 use Rattle.std.proofs.Math.ListN as list
 use Rattle.tables.specs.Tables.{vq_bits, gaq_bits}
-use Rattle.aht.specs.Walk.{Walk, Outcome, done, refuse, reached, refused, number, ◌>>=◌, ◌>>◌, take, pass, refuse_if, times, run, gain_above_26, hebap_above_19, bins_past_the_array}
-use Rattle.aht.specs.declared.Walked.{Walked}
+use Rattle.aht.specs.Walk.{Walk, Outcome, done, refuse, reached, refused, ◌>>=◌, ◌>>◌, take, pass, refuse_if, times, run}
+use Rattle.aht.specs.declared.outcome.Refusal.{Refusal}
+use Rattle.aht.specs.declared.outcome.Refusal.TheVariants.{GainAbove26, HebapAbove19, BinsPastTheArray}
+use Rattle.aht.specs.declared.outcome.Walked.{Walked}
 
 -- ---- E.2.4.2: gains, in the order of the active bins
 
@@ -37,7 +39,7 @@ unfoldable pub composites : (n : ℕ) → Walk (List ℕ)
 composites zero = done []
 composites (suc n) = do
   word ← take 5
-  refuse_if (ltb 26 word) gain_above_26
+  refuse_if (ltb 26 word) GainAbove26
   rest ← composites n
   done (2 ^ (word / 9) ∷ 2 ^ (word % 9 / 3) ∷ 2 ^ (word % 3) ∷ rest)
 
@@ -73,7 +75,7 @@ unfoldable pub bin : (gain hebap tags : ℕ) → Walk ℕ
 bin gain hebap tags =
     cond (eqb hebap 0) (done tags)
     (cond (ltb hebap 8) (pass (vq_bits hebap) tags)
-    (cond (ltb 19 hebap) (refuse hebap_above_19)
+    (cond (ltb 19 hebap) (refuse HebapAbove19)
     (times 6 (mantissa gain (gaq_bits (hebap - 8))) tags)))
 
 -- an active bin takes the next gain; any other has gain 1, and so has each where no gains are sent
@@ -94,26 +96,20 @@ range hebap first past = list.take (past - first) (drop first hebap)
 
 unfoldable pub aht : (hebap : List ℕ) → (first past : ℕ) → Walk ℕ
 aht hebap first past = do
-  refuse_if (ltb (length hebap) past) bins_past_the_array
+  refuse_if (ltb (length hebap) past) BinsPastTheArray
   let hs = range hebap first past
   gaqmod ← take 2
   words ← gains gaqmod (active_bins gaqmod hs)
   bins gaqmod words 0 0 hs
 
--- what is told: the end and the tags, or the number of a refusal and zeros
-abbrev pub walked : (end tags : ℕ) → Walked
-walked end tags = record { refusal = 0; end = end; tags = tags }
-
-abbrev pub refusal : ℕ → Walked
-refusal n = record { refusal = n; end = 0; tags = 0 }
-
-abbrev pub answer : Outcome ℕ → Walked
-answer (reached tags end) = walked end tags
-answer (refused r) = refusal (number r)
-
 -- nothing may end past the given end or past that of the bytes
 abbrev pub limit_of : List ℕ → (end : ℕ) → ℕ
 limit_of s end = min end (length s * 8)
 
-abbrev pub aht_of : List ℕ → (at end : ℕ) → (hebap : List ℕ) → (first past : ℕ) → Walked
-aht_of s at end hebap first past = answer (run (aht hebap first past) s (limit_of s end) at)
+abbrev pub aht_of : List ℕ → (at end : ℕ) → (hebap : List ℕ) → (first past : ℕ) → Outcome ℕ
+aht_of s at end hebap first past = run (aht hebap first past) s (limit_of s end) at
+
+-- what the code tells: where the walk stands, or why it is refused
+abbrev pub outcome_of : Result Walked Refusal → Outcome ℕ
+outcome_of (Ok walked) = reached walked.tags walked.end
+outcome_of (Err refusal) = refused refusal

@@ -2,7 +2,8 @@
 -- values steer the length (`MantissasSteer`), so that only this holds: equal bits give equal ends and tags.
 use Rattle.std.specs.Prelude.{List, [], ◌∷◌, ◌≡◌, ℕ, ◌≤◌, ◌<◌}
 use Rattle.bits.specs.Bits.{bit_at}
-use Rattle.aht.specs.Aht.{walked, limit_of, aht_of}
+use Rattle.aht.specs.Aht.{limit_of, aht_of}
+use Rattle.aht.specs.Walk.{reached}
 
 -- the bits from one place up to another are the same
 abbrev pub SameBits : List ℕ → List ℕ → (first past : ℕ) → Type 0
@@ -11,8 +12,8 @@ SameBits s t first past = (p : ℕ) → first ≤ p → p < past → bit_at s p 
 -- Bytes with the bits that a walk went over have its answer: what stands before or after them, and how far one may read beyond them, is of no account.
 abbrev pub EqualBits : Type 0
 EqualBits =
-    (s t : List ℕ) (at end end' : ℕ) (hebap : List ℕ) (first past : ℕ) → let r = aht_of s at end hebap first past in
-    r.refusal ≡ 0 → r.end ≤ limit_of t end' → SameBits s t at r.end → aht_of t at end' hebap first past ≡ r
+    (s t : List ℕ) (at end end' : ℕ) (hebap : List ℕ) (first past stop tags : ℕ) → aht_of s at end hebap first past ≡ reached tags stop
+    → stop ≤ limit_of t end' → SameBits s t at stop → aht_of t at end' hebap first past ≡ reached tags stop
 
 -- a refusal too goes by the bits alone, up to the same limit
 abbrev pub EqualRefusals : Type 0
@@ -23,4 +24,4 @@ EqualRefusals =
 -- One bin of hebap 8 under gain 2: six mantissas of 2 bits, from bit 3 on. Bytes that differ in bit 3 alone, which makes the first mantissa a tag,
 -- end 2 bits apart.
 abbrev pub MantissasSteer : Type 0
-MantissasSteer = (aht_of (0x60 ∷ 0 ∷ 0 ∷ []) 0 24 (8 ∷ []) 0 1 ≡ walked 15 0) × (aht_of (0x70 ∷ 0 ∷ 0 ∷ []) 0 24 (8 ∷ []) 0 1 ≡ walked 17 1)
+MantissasSteer = (aht_of (0x60 ∷ 0 ∷ 0 ∷ []) 0 24 (8 ∷ []) 0 1 ≡ reached 0 15) × (aht_of (0x70 ∷ 0 ∷ 0 ∷ []) 0 24 (8 ∷ []) 0 1 ≡ reached 1 17)

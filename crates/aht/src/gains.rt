@@ -1,41 +1,73 @@
 // E.2.4.2: which bins have a gain, and the gain words.
-ghost use Rattle.std.specs.Prelude.{◌≡◌, true, cond, ◌≤◌, ◌<◌, ◌^◌, length};
+ghost use Rattle.std.specs.Prelude.{◌≡◌, true, cond, ◌≤◌, ◌<◌, ◌^◌};
 ghost use Rattle.aht.specs.Walk.{run};
 ghost use Rattle.aht.specs.Aht as standard;
-ghost use Rattle.aht.specs.Aht.{range};
 ghost use Rattle.aht.specs.Promises.{ended, digit, gain_place, gain_at};
+ghost use Rattle.aht.specs.declared.outcome.Refusal.TheVariants.{GainAbove26};
 
-use crate::{GAIN_ABOVE_26, PAST_THE_END, Walked, fits, refused, skip};
+use crate::outcome::Refusal;
+use crate::section::Section;
 
-// Whether a bin has a gain under a mode: hebap 8 to 11 under modes 0 and 1, to 16 under 2 and 3. (Mode 0 sends none.)
-fn is_active(gaqmod: u8, hebap: u8) -> bool
-    ensures { result ≡ standard.is_active gaqmod hebap }
-{
-    if hebap <= 7 {
-        return false;
-    }
-    if gaqmod < 2 {
-        return hebap < 12;
-    }
-    hebap < 17
+// The gain words of a channel: the bit that they begin at, and their mode.
+#[derive(Clone, Copy)]
+pub struct Gains {
+    pub at: usize,
+    pub gaqmod: u8,
 }
 
-// An active bin counts for 1.
-pub fn active_one(gaqmod: u8, hebap: u8) -> usize
-    ensures { result ≡ standard.active_one gaqmod hebap }
-{
-    if is_active(gaqmod, hebap) { 1 } else { 0 }
-}
-
-pub fn active_bins(gaqmod: u8, hebap: &[u8], first: usize, past: usize) -> usize
-    requires { past ≤ length hebap.now }
-    ensures { result ≡ standard.active_bins gaqmod (range hebap.now first past) }
-{
-    let mut count = 0;
-    for bin in first..past {
-        count += active_one(gaqmod, hebap[bin]);
+impl Gains {
+    // Whether a bin has a gain: hebap 8 to 11 under modes 0 and 1, to 16 under 2 and 3. (Mode 0 sends none.)
+    pub fn is_active(self, hebap: u8) -> bool
+        ensures { result ≡ standard.is_active self.gaqmod hebap }
+    {
+        let endbap = if self.gaqmod < 2 { 12 } else { 17 };
+        7 < hebap && hebap < endbap
     }
-    count
+
+    // How many bins have a gain.
+    pub fn active_bins(self, hebap: &[u8]) -> usize
+        ensures { result ≡ standard.active_bins self.gaqmod hebap.now }
+    {
+        hebap.iter().filter(|&&h| self.is_active(h)).count()
+    }
+
+    #[tactic(auto, unfolding(crate::specs::Promises::gain_at))]
+    // The gain of active bin k, read from its place: there may be any number of gains, so that none are kept.
+    fn gain_at(self, s: &[u8], k: usize) -> u32
+        requires { gain_place self.at self.gaqmod k < 2 ^ 64 }
+        ensures { result ≡ gain_at s.now self.at self.gaqmod k }
+    {
+        match self.gaqmod {
+            0 => 1,
+            1 => single(2, bits::get(s, self.at + k, 1)),
+            2 => single(4, bits::get(s, self.at + k, 1)),
+            _ => 1 << digit(bits::get(s, self.at + 5 * (k / 3), 5), k % 3),
+        }
+    }
+
+    // The gain of a bin, of which k active ones stand before it.
+    pub fn gain_of(self, s: &[u8], k: usize, hebap: u8) -> u32
+        requires { standard.is_active self.gaqmod hebap ≡ true → gain_place self.at self.gaqmod k < 2 ^ 64 }
+        ensures { result ≡ cond (standard.is_active self.gaqmod hebap) (gain_at s.now self.at self.gaqmod k) 1 }
+    {
+        if self.is_active(hebap) {
+            self.gain_at(s, k)
+        } else {
+            1
+        }
+    }
+
+    // Where the gain words end, of which as many bins as are active have one. Those of one bit are not looked at: each is good.
+    pub fn end(self, section: &Section<'_>, active: usize) -> Result<usize, Refusal>
+        requires { self.at ≤ section.now.limit }
+        ensures { result ≡ ended (run (standard.gains self.gaqmod active) section.now.bytes.now section.now.limit self.at) }
+    {
+        match self.gaqmod {
+            0 => Ok(self.at),
+            1 | 2 => section.skip(self.at, active),
+            _ => composites_end(section, self.at, active.div_ceil(3)),
+        }
+    }
 }
 
 // A gain of 1, or where its bit is 1 the mode's.
@@ -50,79 +82,23 @@ fn digit(word: u32, which: usize) -> u32
     requires { word < 32 }
     ensures { (result ≡ digit word which) × (result < 4) }
 {
-    if which == 0 {
-        return word / 9;
-    }
-    if which == 1 {
-        return word % 9 / 3;
-    }
-    word % 3
-}
-
-// The gain of active bin k, read from its place: there may be any number of gains, so that none are kept.
-fn gain_at(s: &[u8], at: usize, gaqmod: u8, k: usize) -> u32
-    requires { gain_place at gaqmod k < 2 ^ 64 }
-    ensures { result ≡ gain_at s.now at gaqmod k }
-{
-    if gaqmod == 0 {
-        return 1;
-    }
-    if gaqmod == 1 {
-        return single(2, bits::get(s, at + k, 1));
-    }
-    if gaqmod == 2 {
-        return single(4, bits::get(s, at + k, 1));
-    }
-    1u32 << digit(bits::get(s, at + 5 * (k / 3), 5), k % 3)
-}
-
-// The gain of a bin, of which k active ones stand before it.
-pub fn gain_of(s: &[u8], at: usize, gaqmod: u8, k: usize, hebap: u8) -> u32
-    requires { standard.is_active gaqmod hebap ≡ true → gain_place at gaqmod k < 2 ^ 64 }
-    ensures { result ≡ cond (standard.is_active gaqmod hebap) (gain_at s.now at gaqmod k) 1 }
-{
-    if is_active(gaqmod, hebap) {
-        gain_at(s, at, gaqmod, k)
-    } else {
-        1
+    match which {
+        0 => word / 9,
+        1 => word % 9 / 3,
+        _ => word % 3,
     }
 }
 
-// Words of three gains each.
-fn composites(s: &[u8], limit: usize, at: usize, count: usize) -> Walked
-    ensures { result ≡ ended (run (standard.composites count) s.now limit at) }
+// Where words of three gains each end.
+fn composites_end(section: &Section<'_>, at: usize, count: usize) -> Result<usize, Refusal>
+    ensures { result ≡ ended (run (standard.composites count) section.now.bytes.now section.now.limit at) }
 {
     let mut place = at;
     for _i in 0..count {
-        if !fits(limit, place, 5) {
-            return refused(PAST_THE_END);
-        }
-        if 26 < bits::get(s, place, 5) {
-            return refused(GAIN_ABOVE_26);
+        if 26 < section.take(place, 5)? {
+            return Err(Refusal::GainAbove26);
         }
         place += 5;
     }
-    Walked {
-        refusal: 0,
-        end: place,
-        tags: 0,
-    }
-}
-
-// The gain words. Those of one bit are not looked at: each is good.
-pub fn gains(s: &[u8], limit: usize, at: usize, gaqmod: u8, active: usize) -> Walked
-    requires { at ≤ limit }
-    ensures { result ≡ ended (run (standard.gains gaqmod active) s.now limit at) }
-{
-    if gaqmod == 0 {
-        return Walked {
-            refusal: 0,
-            end: at,
-            tags: 0,
-        };
-    }
-    if gaqmod < 3 {
-        return skip(limit, at, active, 0);
-    }
-    composites(s, limit, at, active / 3 + (active % 3 + 2) / 3)
+    Ok(place)
 }

@@ -21,7 +21,7 @@ impl Gains {
         ensures { result ≡ standard.is_active self.gaqmod hebap }
     {
         let endbap = if self.gaqmod < 2 { 12 } else { 17 };
-        7 < hebap && hebap < endbap
+        (8..endbap).contains(&hebap)
     }
 
     // How many bins have a gain.
@@ -95,7 +95,8 @@ fn composites_end(section: &Section<'_>, at: usize, count: usize) -> Result<usiz
 {
     let mut place = at;
     for _i in 0..count {
-        if 26 < section.take(place, 5)? {
+        let word = section.take(place, 5)?;
+        if 26 < word {
             return Err(Refusal::GainAbove26);
         }
         place += 5;

@@ -7,20 +7,18 @@ mod outcome;
 mod section;
 
 ghost use Rattle.std.specs.Prelude.{◌≡◌, List, ℕ};
-ghost use Rattle.aht.specs.Walk.{run};
 ghost use Rattle.aht.specs.Aht as standard;
 ghost use Rattle.aht.specs.Aht.{outcome_of, aht_of};
-ghost use Rattle.aht.specs.Promises.{Placed, Holds};
+ghost use Rattle.aht.specs.Promises.{Walks, Placed, Holds};
 
 use gains::Gains;
-use section::Section;
-
 pub use outcome::{Refusal, Walked};
+use section::Section;
 
 // One bin under its gain: nothing, a vector index for all six blocks, or a mantissa for each.
 #[tactic(auto, unfolding(crate::specs::Aht::bin, crate::specs::Walk::run))]
 fn bin(section: &Section<'_>, from: Walked, gain: u32, hebap: u8) -> Result<Walked, Refusal>
-    ensures { outcome_of result ≡ run (standard.bin gain hebap from.tags) section.now.bytes.now section.now.limit from.end }
+    ensures { Walks (standard.bin gain hebap) section.now from result }
 {
     match hebap {
         0 => Ok(from),
@@ -33,7 +31,8 @@ fn bin(section: &Section<'_>, from: Walked, gain: u32, hebap: u8) -> Result<Walk
 // Some bins, from the first active one's gain on.
 fn bins(section: &Section<'_>, from: Walked, hebap: &[u8], gains: Gains) -> Result<Walked, Refusal>
     requires { Placed gains.at gains.gaqmod (standard.active_bins gains.gaqmod hebap.now) }
-    ensures { (words : List ℕ) → Holds section.now.bytes.now gains.at gains.gaqmod (standard.active_bins gains.gaqmod hebap.now) words → outcome_of result ≡ run (standard.bins gains.gaqmod words 0 from.tags hebap.now) section.now.bytes.now section.now.limit from.end }
+    ensures { (words : List ℕ) → Holds section.now.bytes.now gains.at gains.gaqmod (standard.active_bins gains.gaqmod hebap.now) words
+        → Walks (λ tags. standard.bins gains.gaqmod words 0 tags hebap.now) section.now from result }
 {
     let mut walked = from;
     let mut next = 0;
@@ -45,7 +44,14 @@ fn bins(section: &Section<'_>, from: Walked, hebap: &[u8], gains: Gains) -> Resu
 }
 
 // The whole: from bit `at` on, gain words and then the bins from first up to past. Nothing may end past bit `end`.
-pub fn aht(s: &[u8], at: usize, end: usize, hebap: &[u8], first: usize, past: usize) -> Result<Walked, Refusal>
+pub fn aht(
+    s: &[u8],
+    at: usize,
+    end: usize,
+    hebap: &[u8],
+    first: usize,
+    past: usize,
+) -> Result<Walked, Refusal>
     ensures { outcome_of result ≡ aht_of s.now at end hebap.now first past }
 {
     if hebap.len() < past {

@@ -1,8 +1,8 @@
 // E.2.4.4.2: the mantissas of a bin, and their tags.
 ghost use Rattle.std.specs.Prelude.{◌≡◌, ◌≤◌};
-ghost use Rattle.aht.specs.Walk.{times, run};
+ghost use Rattle.aht.specs.Walk.{times};
 ghost use Rattle.aht.specs.Aht as standard;
-ghost use Rattle.aht.specs.Aht.{outcome_of};
+ghost use Rattle.aht.specs.Promises.{Walks};
 
 use crate::outcome::{Refusal, Walked};
 use crate::section::Section;
@@ -26,7 +26,7 @@ fn large_bits(gain: u32, m: usize) -> usize
 // A mantissa: under gain 1 its m bits, under another a small one, and where that is a tag, only its first bit being 1, the large one that it stands for.
 fn mantissa(section: &Section<'_>, from: Walked, gain: u32, m: usize) -> Result<Walked, Refusal>
     requires { (3 ≤ m) × (m ≤ 16) }
-    ensures { outcome_of result ≡ run (standard.mantissa gain m from.tags) section.now.bytes.now section.now.limit from.end }
+    ensures { Walks (standard.mantissa gain m) section.now from result }
 {
     if gain == 1 {
         return section.pass(from, m);
@@ -38,13 +38,21 @@ fn mantissa(section: &Section<'_>, from: Walked, gain: u32, m: usize) -> Result<
         let tags = from.tags + 1;
         return section.pass(Walked { end, tags }, large_bits(gain, m));
     }
-    Ok(Walked { end, tags: from.tags })
+    Ok(Walked {
+        end,
+        tags: from.tags,
+    })
 }
 
 // The mantissas of a bin, one for each block.
-pub fn mantissas(section: &Section<'_>, from: Walked, gain: u32, m: usize) -> Result<Walked, Refusal>
+pub fn mantissas(
+    section: &Section<'_>,
+    from: Walked,
+    gain: u32,
+    m: usize,
+) -> Result<Walked, Refusal>
     requires { (3 ≤ m) × (m ≤ 16) }
-    ensures { outcome_of result ≡ run (times 6 (standard.mantissa gain m) from.tags) section.now.bytes.now section.now.limit from.end }
+    ensures { Walks (times 6 (standard.mantissa gain m)) section.now from result }
 {
     let mut walked = from;
     for _blk in 0..6u8 {

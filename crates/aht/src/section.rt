@@ -1,9 +1,9 @@
 // Reading the bits of a section: no bit past its limit.
-ghost use Rattle.std.specs.Prelude.{◌≡◌, ◌+◌, ◌≤◌, ◌<◌, MatchResult};
+ghost use Rattle.std.specs.Prelude.{◌≡◌, ◌+◌, ◌≤◌};
 ghost use Rattle.bits.specs.Bits.{value};
-ghost use Rattle.aht.specs.Walk.{pass, run};
-ghost use Rattle.aht.specs.Aht.{limit_of, outcome_of};
-ghost use Rattle.aht.specs.declared.outcome.Refusal.TheVariants.{PastTheEnd};
+ghost use Rattle.aht.specs.Walk.{pass};
+ghost use Rattle.aht.specs.Aht.{limit_of};
+ghost use Rattle.aht.specs.Promises.{IfFits, Walks};
 
 use crate::outcome::{Refusal, Walked};
 
@@ -20,13 +20,15 @@ impl<'s> Section<'s> {
         ensures bytes { result.bytes.now ≡ bytes.now }
         ensures limit { result.limit ≡ limit_of bytes.now end }
     {
-        let limit = if end / 8 < bytes.len() { end } else { bytes.len() * 8 };
-        Section { bytes, limit }
+        Section {
+            bytes,
+            limit: end.min(bytes.len().saturating_mul(8)),
+        }
     }
 
     // The end of some bits that are not looked at.
     pub fn skip(&self, at: usize, width: usize) -> Result<usize, Refusal>
-        ensures { MatchResult result (λ end. (end ≡ at + width) × (at + width ≤ self.now.limit)) (λ refusal. (refusal ≡ PastTheEnd) × (self.now.limit < at + width)) }
+        ensures { IfFits self.now at width (at + width) result }
     {
         if at <= self.limit && width <= self.limit - at {
             Ok(at + width)
@@ -38,7 +40,7 @@ impl<'s> Section<'s> {
     // The value of some bits, 16 at most.
     pub fn take(&self, at: usize, width: usize) -> Result<u32, Refusal>
         requires { width ≤ 16 }
-        ensures { MatchResult result (λ v. (v ≡ value self.now.bytes.now at width) × (at + width ≤ self.now.limit)) (λ refusal. (refusal ≡ PastTheEnd) × (self.now.limit < at + width)) }
+        ensures { IfFits self.now at width (value self.now.bytes.now at width) result }
     {
         self.skip(at, width)?;
         Ok(bits::get(self.bytes, at, width))
@@ -46,9 +48,12 @@ impl<'s> Section<'s> {
 
     // Goes on past some bits that are not looked at.
     pub fn pass(&self, from: Walked, width: usize) -> Result<Walked, Refusal>
-        ensures { outcome_of result ≡ run (pass width from.tags) self.now.bytes.now self.now.limit from.end }
+        ensures { Walks (pass width) self.now from result }
     {
         let end = self.skip(from.end, width)?;
-        Ok(Walked { end, tags: from.tags })
+        Ok(Walked {
+            end,
+            tags: from.tags,
+        })
     }
 }

@@ -272,8 +272,10 @@ pub fn ferrysprig_aht(
 )
     ensures { answer.new ≡ aht_numbers (aht_of bytes.now at end hebap.now first past) }
 {
-    let walked = aht::aht(bytes, at, end, hebap, first, past);
-    *answer = [walked.refusal as usize, walked.end, walked.tags];
+    *answer = match aht::aht(bytes, at, end, hebap, first, past) {
+        Ok(walked) => [0, walked.end, walked.tags],
+        Err(refusal) => [usize::from(refusal.number()), 0, 0],
+    };
 }
 
 // The numbers of an answer about the profile in their order.

@@ -1,5 +1,5 @@
 -- The mode is read, then the gain words, and the bins go by the gains at their places.
-use Rattle.std.proofs.Common.{◌≡◌, List, ℕ, ◌+◌, ◌-◌, ◌<◌, ◌≤◌, take, drop, min, refl, sym, ◌∙◌, ap, arith}
+use Rattle.std.proofs.Common.{◌+◌, ◌≤◌, sym, ◌∙◌, arith}
 use Rattle.std.proofs.lemmas.Result.{err_from_is_err_and}
 use Rattle.bits.proofs.Window.{value_lt}
 use Rattle.aht.proofs.Range.{range_min}

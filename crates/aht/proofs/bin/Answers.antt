@@ -1,5 +1,5 @@
 -- A mantissa has 3 bits at least.
-use Rattle.std.proofs.Common.{◌-◌, ◌≤◌, arith}
+use Rattle.std.proofs.Common.{◌-◌, arith}
 use Rattle.tables.proofs.Rule.{gaq_at_least}
 use Rattle.aht.proofs.bin.Goals as goal
 

@@ -1,9 +1,9 @@
 -- One bin, and then those that are left.
-use Rattle.std.proofs.Common.{◌≡◌, Bool, true, false, List, [], ℕ, ◌+◌, ◌<◌, cond, drop, length, refl, sym, ◌∙◌, ap, arith}
+use Rattle.std.proofs.Common.{◌≡◌, Bool, true, false, [], cond, drop, refl, sym, ◌∙◌, ap, arith}
 use Rattle.std.proofs.lemmas.List.{drop_all}
 use Rattle.std.proofs.lemmas.Result.{err_from_is_err_and}
 use Rattle.std.specs.Int.{from_bool}
-use Rattle.aht.specs.Aht.{active_one, bins}
+use Rattle.aht.specs.Aht.{bins}
 use Rattle.aht.specs.Walk.{run}
 use Rattle.aht.proofs.Active.{active_small, gain_left, next_left, bins_left}
 use Rattle.aht.proofs.Walking.{goes, stops}

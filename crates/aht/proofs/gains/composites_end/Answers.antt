@@ -1,28 +1,27 @@
 -- One word, and then those that are left.
-use Rattle.std.proofs.Common.{◌≡◌, ℕ, ◌+◌, ◌-◌, ◌≤◌, sym, ◌∙◌, ap, arith}
+use Rattle.std.proofs.Common.{◌≡◌, ◌+◌, ◌-◌, sym, ◌∙◌, arith}
 use Prim.Native.Nat.{suc}
 use Rattle.std.proofs.lemmas.Result.{err_from_is_err_and}
 use Rattle.aht.specs.Aht.{composites}
-use Rattle.aht.specs.Promises.{ended}
 use Rattle.aht.specs.Walk.{run}
 use Rattle.aht.proofs.GainWords.{composite_past, composite_bad, composite_good}
 use Rattle.aht.proofs.gains.composites_end.Goals as goal
 
-pub returns-in_err-take : goal.returns-in_err-take
-returns-in_err-take c =
+pub returns-in_err-word : goal.returns-in_err-word
+returns-in_err-word c =
     let p = err_from_is_err_and c.from_residual.result c.from_residual.ensures.1 in
     let left : c.args.count - c.loop-i._i ≡ suc (c.args.count - (c.loop-i._i + 1)) = omega arith in
-    rw (p.1, p.2, c.in_err-take.ensures.0) (sym (composite_past _ _ _ _ c.in_err-take.ensures.1) ∙ (rw left at c.loop-i.invariant))
+    rw (p.1, p.2, c.in_err-word.ensures.0) (sym (composite_past _ _ _ _ c.in_err-word.ensures.1) ∙ (rw left at c.loop-i.invariant))
 
-pub returns-then-branch-gt26 : goal.returns-then-branch-gt26
-returns-then-branch-gt26 c =
+pub returns-then-word-gt26 : goal.returns-then-word-gt26
+returns-then-word-gt26 c =
     let left : c.args.count - c.loop-i._i ≡ suc (c.args.count - (c.loop-i._i + 1)) = omega arith in
-    sym (composite_bad _ _ _ _ c.in_ok-take.ensures.1 (rw c.in_ok-take.ensures.0 at c.if-branch-gt26.true)) ∙ (rw left at c.loop-i.invariant)
+    sym (composite_bad _ _ _ _ c.in_ok-word.ensures.1 (rw c.in_ok-word.ensures.0 at c.if-word-gt26.true)) ∙ (rw left at c.loop-i.invariant)
 
 pub loop-i-preserved : goal.loop-i-preserved
 loop-i-preserved c =
     let left : c.args.count - c.loop-i._i ≡ suc (c.args.count - (c.loop-i._i + 1)) = omega arith in
-    sym (composite_good _ _ _ _ c.in_ok-take.ensures.1 (rw c.in_ok-take.ensures.0 at c.if-branch-gt26.false)) ∙ (rw left at c.loop-i.invariant)
+    sym (composite_good _ _ _ _ c.in_ok-word.ensures.1 (rw c.in_ok-word.ensures.0 at c.if-word-gt26.false)) ∙ (rw left at c.loop-i.invariant)
 
 pub returns : goal.returns
 unfolding composites run

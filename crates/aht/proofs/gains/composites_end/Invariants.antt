@@ -1,5 +1,5 @@
 -- The words that are left, from where the loop stands.
-use Rattle.std.proofs.Common.{◌≡◌, ◌≤◌, ◌-◌}
+use Rattle.std.proofs.Common.{◌≡◌, ◌-◌}
 use Rattle.aht.specs.Aht.{composites}
 use Rattle.aht.specs.Promises.{ended}
 use Rattle.aht.specs.Walk.{run}

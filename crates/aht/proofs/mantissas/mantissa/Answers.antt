@@ -1,10 +1,9 @@
 -- By what was read.
-use Rattle.std.proofs.Common.{◌≡◌, ℕ, ◌+◌, ◌-◌, sym, ◌∙◌, ap, arith, eq-eqb}
+use Rattle.std.proofs.Common.{◌-◌, sym, ◌∙◌, arith, eq-eqb}
 use Rattle.std.proofs.lemmas.Result.{err_from_is_err_and}
 use Rattle.std.proofs.lemmas.Grind.{common_steps}
 use Rattle.bits.proofs.Window.{power}
 use Rattle.aht.specs.Aht.{mantissa}
-use Rattle.aht.specs.Walk.{run}
 use Rattle.aht.proofs.Tags.{mantissa_past, mantissa_tag, mantissa_small}
 use Rattle.aht.proofs.mantissas.mantissa.Goals as goal
 

@@ -1,8 +1,7 @@
 -- One mantissa, and then those of the blocks that are left.
-use Rattle.std.proofs.Common.{◌≡◌, ℕ, ◌+◌, ◌-◌, sym, ◌∙◌, ap, arith}
+use Rattle.std.proofs.Common.{◌≡◌, ◌+◌, ◌-◌, sym, ◌∙◌, arith}
 use Prim.Native.Nat.{suc}
 use Rattle.std.proofs.lemmas.Result.{err_from_is_err_and}
-use Rattle.aht.specs.Aht.{mantissa}
 use Rattle.aht.specs.Walk.{times, run}
 use Rattle.aht.proofs.Walking.{goes, stops}
 use Rattle.aht.proofs.mantissas.mantissas.Goals as goal

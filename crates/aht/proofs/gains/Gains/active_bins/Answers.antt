@@ -1,6 +1,6 @@
 -- What the filter keeps is what the definition counts.
-use Rattle.std.proofs.Common.{◌≡◌, List, [], ◌∷◌, ℕ, ◌+◌, Bool, true, false, cond, length, refl, sym, ◌∙◌, ap, rules, tests}
-use Rattle.std.specs.List.{filter, count_by}
+use Rattle.std.proofs.Common.{◌≡◌, List, [], ◌∷◌, ℕ, ◌+◌, cond, refl, ◌∙◌, ap, rules, tests}
+use Rattle.std.specs.List.{count_by}
 use Rattle.std.proofs.lemmas.Iterator.{YieldsList-from_slice}
 use Rattle.std.proofs.lemmas.Iterator.Consumers.{count_from_yields_List, YieldsList-from_filter}
 use Rattle.std.proofs.lemmas.List.Sums.{length-filter, sum_by-cons}

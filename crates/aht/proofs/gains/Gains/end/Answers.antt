@@ -1,5 +1,5 @@
 -- By the mode.
-use Rattle.std.proofs.Common.{◌≡◌, ℕ, ◌+◌, ◌/◌, ◌%◌, min, sym, ◌∙◌, ap, arith}
+use Rattle.std.proofs.Common.{◌≡◌, ◌+◌, ◌/◌, ◌%◌, min, sym, ◌∙◌, arith}
 use Rattle.aht.specs.Aht.{gains}
 use Rattle.aht.specs.Walk.{run}
 use Rattle.aht.proofs.Walking.{skipped}

@@ -1,5 +1,5 @@
 -- The bits fit, or the walk is refused.
-use Rattle.std.proofs.Common.{◌+◌, sym}
+use Rattle.std.proofs.Common.{sym}
 use Rattle.std.proofs.lemmas.Result.{err_from_is_err_and}
 use Rattle.aht.specs.Walk.{done, run}
 use Rattle.aht.proofs.Walking.{took, past}

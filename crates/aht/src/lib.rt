@@ -28,7 +28,7 @@ fn bin(section: &Section<'_>, from: Walked, gain: u32, hebap: u8) -> Result<Walk
     }
 }
 
-// Some bins, from the first active one's gain on.
+// Bins under their gains, from where a walk stands.
 fn bins(section: &Section<'_>, from: Walked, hebap: &[u8], gains: Gains) -> Result<Walked, Refusal>
     requires { Placed gains.at gains.gaqmod (standard.active_bins gains.gaqmod hebap.now) }
     ensures { (words : List ℕ) → Holds section.now.bytes.now gains.at gains.gaqmod (standard.active_bins gains.gaqmod hebap.now) words
@@ -54,14 +54,17 @@ pub fn aht(
 ) -> Result<Walked, Refusal>
     ensures { outcome_of result ≡ aht_of s.now at end hebap.now first past }
 {
-    if hebap.len() < past {
-        return Err(Refusal::BinsPastTheArray);
-    }
     // A range that begins past its end has no bins.
-    let hebap = &hebap[first.min(past)..past];
+    let hebap = hebap
+        .get(first.min(past)..past)
+        .ok_or(Refusal::BinsPastTheArray)?;
     let section = Section::new(s, end);
     let gaqmod = section.take(at, 2)? as u8;
     let gains = Gains { at: at + 2, gaqmod };
-    let end = gains.end(&section, gains.active_bins(hebap))?;
-    bins(&section, Walked { end, tags: 0 }, hebap, gains)
+    let words_end = gains.end(&section, gains.active_bins(hebap))?;
+    let from = Walked {
+        end: words_end,
+        tags: 0,
+    };
+    bins(&section, from, hebap, gains)
 }

@@ -1,12 +1,11 @@
 -- One bin, and then those that are left.
 use Rattle.std.proofs.Common.{◌≡◌, Bool, true, false, [], cond, drop, refl, sym, ◌∙◌, ap, arith}
 use Rattle.std.proofs.lemmas.List.{drop_all}
-use Rattle.std.proofs.lemmas.Result.{err_from_is_err_and}
 use Rattle.std.specs.Int.{from_bool}
 use Rattle.aht.specs.Aht.{bins}
 use Rattle.aht.specs.Walk.{run}
 use Rattle.aht.proofs.Active.{active_small, gain_left, next_left, bins_left}
-use Rattle.aht.proofs.Walking.{goes, stops}
+use Rattle.aht.proofs.Walking.{exit, goes, stops}
 use Rattle.aht.proofs.bins.Goals as goal
 
 pub gain_of-requires : goal.gain_of-requires
@@ -14,8 +13,7 @@ gain_of-requires c on = c.requires c.loop-h.next (gain_left _ _ _ c.loop-h-test.
 
 pub returns-in_err-walked : goal.returns-in_err-walked
 returns-in_err-walked c words held =
-    let p = err_from_is_err_and c.from_residual.result c.from_residual.ensures.1 in
-    rw (p.1, p.2)
+    rw (exit c.from_residual.result c.in_err-walked.field-0.0 c.from_residual.ensures.1)
     (sym (stops _ _ _ _ _ c.in_err-walked.ensures) ∙ bins_left _ _ _ c.loop-h-test.true _ _ c.loop-h.invariant.left _ _ _ _ _ _ held c.gain_of.ensures ∙ c.loop-h.invariant.same words held)
 
 -- a bin that has a gain counts for one

@@ -1,17 +1,16 @@
 -- One word, and then those that are left.
 use Rattle.std.proofs.Common.{◌≡◌, ◌+◌, ◌-◌, sym, ◌∙◌, arith}
 use Prim.Native.Nat.{suc}
-use Rattle.std.proofs.lemmas.Result.{err_from_is_err_and}
 use Rattle.aht.specs.Aht.{composites}
 use Rattle.aht.specs.Walk.{run}
+use Rattle.aht.proofs.Walking.{exit}
 use Rattle.aht.proofs.GainWords.{composite_past, composite_bad, composite_good}
 use Rattle.aht.proofs.gains.composites_end.Goals as goal
 
 pub returns-in_err-word : goal.returns-in_err-word
 returns-in_err-word c =
-    let p = err_from_is_err_and c.from_residual.result c.from_residual.ensures.1 in
     let left : c.args.count - c.loop-i._i ≡ suc (c.args.count - (c.loop-i._i + 1)) = omega arith in
-    rw (p.1, p.2, c.in_err-word.ensures.0) (sym (composite_past _ _ _ _ c.in_err-word.ensures.1) ∙ (rw left at c.loop-i.invariant))
+    rw (exit c.from_residual.result c.in_err-word.field-0.0 c.from_residual.ensures.1, c.in_err-word.ensures.0) (sym (composite_past _ _ _ _ c.in_err-word.ensures.1) ∙ (rw left at c.loop-i.invariant))
 
 pub returns-then-word-gt26 : goal.returns-then-word-gt26
 returns-then-word-gt26 c =

@@ -1,9 +1,9 @@
 -- By what was read.
 use Rattle.std.proofs.Common.{◌-◌, sym, ◌∙◌, arith, eq-eqb}
-use Rattle.std.proofs.lemmas.Result.{err_from_is_err_and}
 use Rattle.std.proofs.lemmas.Grind.{common_steps}
 use Rattle.bits.proofs.Window.{power}
 use Rattle.aht.specs.Aht.{mantissa}
+use Rattle.aht.proofs.Walking.{exit}
 use Rattle.aht.proofs.Tags.{mantissa_past, mantissa_tag, mantissa_small}
 use Rattle.aht.proofs.mantissas.mantissa.Goals as goal
 
@@ -13,8 +13,7 @@ returns-then-gain-eq1 c = rw (eq-eqb c.args.gain 1 c.if-gain-eq1.true) c.pass.en
 
 pub returns-in_err-value : goal.returns-in_err-value
 returns-in_err-value c =
-    let p = err_from_is_err_and c.from_residual.result c.from_residual.ensures.1 in
-    rw (p.1, p.2, c.in_err-value.ensures.0) (sym (mantissa_past _ _ _ _ _ _ c.if-gain-eq1.false c.small_bits-small.ensures c.in_err-value.ensures.1))
+    rw (exit c.from_residual.result c.in_err-value.field-0.0 c.from_residual.ensures.1, c.in_err-value.ensures.0) (sym (mantissa_past _ _ _ _ _ _ c.if-gain-eq1.false c.small_bits-small.ensures c.in_err-value.ensures.1))
 
 pub returns-then-value-small : goal.returns-then-value-small
 returns-then-value-small c =

@@ -1,14 +1,12 @@
 -- The bits fit, or the walk is refused.
 use Rattle.std.proofs.Common.{sym}
-use Rattle.std.proofs.lemmas.Result.{err_from_is_err_and}
 use Rattle.aht.specs.Walk.{done, run}
-use Rattle.aht.proofs.Walking.{took, past}
+use Rattle.aht.proofs.Walking.{exit, took, past}
 use Rattle.aht.proofs.section.Section.pass.Goals as goal
 
 pub returns-in_err-end : goal.returns-in_err-end
 returns-in_err-end c =
-    let p = err_from_is_err_and c.from_residual.result c.from_residual.ensures.1 in
-    rw (p.1, p.2, c.in_err-end.ensures.0) (sym (past _ _ _ _ _ c.in_err-end.ensures.1))
+    rw (exit c.from_residual.result c.in_err-end.field-0.0 c.from_residual.ensures.1, c.in_err-end.ensures.0) (sym (past _ _ _ _ _ c.in_err-end.ensures.1))
 
 pub returns : goal.returns
 unfolding run

@@ -8,7 +8,7 @@ ghost use Rattle.aht.specs.declared.outcome.Refusal.TheVariants.{GainAbove26};
 use crate::outcome::Refusal;
 use crate::section::Section;
 
-// The gain words of a channel: the bit that they begin at, and their mode.
+// The gain words of a channel: the bit that they begin at, and their mode, which stays the number that is sent: the definition goes by it too.
 #[derive(Clone, Copy)]
 pub struct Gains {
     pub at: usize,
@@ -31,8 +31,8 @@ impl Gains {
         hebap.iter().filter(|&&h| self.is_active(h)).count()
     }
 
-    #[tactic(auto, unfolding(crate::specs::Promises::gain_at))]
     // The gain of active bin k, read from its place: there may be any number of gains, so that none are kept.
+    #[tactic(auto, unfolding(crate::specs::Promises::gain_at))]
     fn gain_at(self, s: &[u8], k: usize) -> u32
         requires { gain_place self.at self.gaqmod k < 2 ^ 64 }
         ensures { result ≡ gain_at s.now self.at self.gaqmod k }

@@ -7,11 +7,7 @@ use Rattle.syntax.specs.Names as Name
 use Rattle.syntax.specs.Refusals.{no_delta, bad_delta}
 use Rattle.slots.specs.Slots.{CPL, no_deltas}
 use Rattle.slots.specs.declared.Deltas.{Deltas}
-
--- the codes of this block, and the segments in force
-pub record Coded : Type 0 where
-  pub codes : List ℕ
-  pub deltas : List Deltas
+use Rattle.parameters.specs.declared.delta.Coded.{Coded}
 
 -- cpldeltbae and deltbae (4.4.3.48, .49; Table 4.11): 0 keeps the segments, 1 announces new ones, 2 clears them
 unfoldable pub delta_code : (blk slot : ℕ) → Item → Coded → Grammar Coded

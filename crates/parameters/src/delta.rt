@@ -1,7 +1,7 @@
 // Delta bit allocation (4.3.3, 4.4.3.47): for each slot up to eight segments, kept from block to block.
-ghost use Rattle.std.specs.Prelude.{◌≡◌, ◌&&◌, cond, [], ◌∷◌, ◌*◌, ◌<◌, ◌≤◌, eqb, set, replicate};
+ghost use Rattle.std.specs.Prelude.{◌≡◌, [], ◌∷◌, ◌*◌, ◌<◌, ◌≤◌, replicate, IfOk};
 ghost use Rattle.std.proofs.lemmas.List.Edits.{sets};
-ghost use Rattle.syntax.specs.Grammar.{nth, one, read_if, for};
+ghost use Rattle.syntax.specs.Grammar.{one, read_if, for};
 ghost use Rattle.syntax.specs.Names as Name;
 ghost use Rattle.syntax.specs.Reads.{Reads};
 ghost use Rattle.slots.specs.Slots as slots;
@@ -9,141 +9,70 @@ ghost use Rattle.parameters.specs.Delta as grammar;
 ghost use Rattle.slots.specs.Sound.{SoundCodes, SoundSegments, SoundDeltas};
 
 use slots::{CPL, Deltas, NO_DELTAS};
-use syntax::cursors::refuse_if;
 use syntax::items::{nth, one, part_of};
-use syntax::readers::{flag, take};
-use syntax::refusals::{BAD_DELTA, NO_DELTA};
-use syntax::{Cursor, NONE, names};
+use syntax::readers::refuse_if;
+use syntax::{Item, Reader, Refusal, names};
 
 // ---- codes
 
-// The codes of a block, the segments in force, and where reading stands.
-#[derive(Drop)]
-struct CodesRead {
+// The codes of a block (Table 4.11: 0 keeps the segments of a slot, 1 announces new ones, 2 clears them), and the segments in force. A code
+// stays the number that the definition compares.
+#[derive(Clone, Copy)]
+struct Coded {
     codes: [u8; 7],
     deltas: [Deltas; 7],
-    cursor: Cursor,
 }
 
-// Whether segments are kept where there are none yet.
-fn nothing_to_keep(deltbae: u32, blk: u8) -> bool
-    ensures { result ≡ (eqb deltbae 0 && eqb blk 0) }
-{
-    deltbae == 0 && blk == 0
-}
-
-// The segments, without those of a slot that are cleared.
-fn cleared_if(clear: bool, slot: u8, deltas: [Deltas; 7]) -> [Deltas; 7]
-    requires { (slot < 7) × SoundDeltas deltas }
-    ensures value { result ≡ cond clear (set deltas slot slots.no_deltas) deltas }
-    ensures sound_deltas { SoundDeltas result }
-{
-    if clear {
-        let mut cleared = deltas;
-        cleared[slot as usize] = NO_DELTAS;
-        return cleared;
-    }
-    deltas
-}
-
-// The code of a slot (Table 4.11): 0 keeps the segments, 1 announces new ones, 2 clears them.
+// The code of a slot.
 fn delta_code(
-    s: &[u8],
-    rows: &mut [i32],
-    c: Cursor,
+    r: &mut Reader<'_>,
     blk: u8,
     slot: u8,
-    name: u8,
-    index: u8,
-    codes: [u8; 7],
-    deltas: [Deltas; 7],
-) -> CodesRead
-    requires { (slot < 7) × SoundDeltas deltas }
-    ensures reads { Reads (grammar.delta_code blk slot (nth blk name index) (record { codes = codes; deltas = deltas })) s.now c rows.old
-        (record { codes = result.codes; deltas = result.deltas }) result.cursor rows.new }
-    ensures sound_deltas { SoundDeltas result.deltas }
+    item: Item,
+    coded: Coded,
+) -> Result<Coded, Refusal>
+    requires { (slot < 7) × SoundDeltas coded.deltas }
+    ensures reads { Reads (grammar.delta_code blk slot item coded) r.old result r.new }
+    ensures sound_deltas { IfOk result (λ next. SoundDeltas next.deltas) }
 {
-    let deltbae = take(s, rows, c, nth(blk, name, index), 2);
-    let kept = refuse_if(
-        deltbae.cursor,
-        nothing_to_keep(deltbae.value, blk),
-        NO_DELTA,
-    );
-    let cursor = refuse_if(kept, deltbae.value == 3, BAD_DELTA);
-    let deltas = cleared_if(deltbae.value == 2, slot, deltas);
-    let mut codes = codes;
-    codes[slot as usize] = deltbae.value as u8;
-    CodesRead {
-        codes,
-        deltas,
-        cursor,
+    let deltbae = r.take(item, 2)?;
+    refuse_if((deltbae == 0) & (blk == 0), Refusal::NoDelta)?;
+    refuse_if(deltbae == 3, Refusal::BadDelta)?;
+    let at = slot as usize;
+    let mut next = coded;
+    next.codes[at] = deltbae as u8;
+    if deltbae == 2 {
+        next.deltas[at] = NO_DELTAS;
     }
+    Ok(next)
 }
 
 // The code of coupling, where it is in use.
-fn coupling_code(
-    s: &[u8],
-    rows: &mut [i32],
-    c: Cursor,
-    blk: u8,
-    cplinu: bool,
-    deltas: [Deltas; 7],
-) -> CodesRead
-    requires { SoundDeltas deltas }
-    ensures reads { Reads (read_if cplinu (record { codes = replicate 7 0; deltas = deltas })
-        (grammar.delta_code blk slots.CPL (one blk Name.cpldeltbae) (record { codes = replicate 7 0; deltas = deltas }))) s.now c rows.old
-        (record { codes = result.codes; deltas = result.deltas }) result.cursor rows.new }
-    ensures sound_deltas { SoundDeltas result.deltas }
+fn coupling_code(r: &mut Reader<'_>, blk: u8, cplinu: bool, coded: Coded) -> Result<Coded, Refusal>
+    requires { SoundDeltas coded.deltas }
+    ensures reads { Reads (read_if cplinu coded (grammar.delta_code blk slots.CPL (one blk Name.cpldeltbae) coded)) r.old result r.new }
+    ensures sound_deltas { IfOk result (λ next. SoundDeltas next.deltas) }
 {
-    let codes = [0u8; 7];
     if cplinu {
-        return delta_code(s, rows, c, blk, CPL, names::CPLDELTBAE, NONE, codes, deltas);
+        return delta_code(r, blk, CPL, one(blk, names::CPLDELTBAE), coded);
     }
-    CodesRead {
-        codes,
-        deltas,
-        cursor: c,
-    }
+    Ok(coded)
 }
 
 // The codes of the channels.
-fn channel_codes(
-    s: &[u8],
-    rows: &mut [i32],
-    c: Cursor,
-    blk: u8,
-    nfchans: u8,
-    codes: [u8; 7],
-    deltas: [Deltas; 7],
-) -> CodesRead
-    requires { (nfchans ≤ 5) × SoundDeltas deltas }
-    ensures reads { Reads (for 0 nfchans (record { codes = codes; deltas = deltas }) (grammar.channel_code blk)) s.now c rows.old
-        (record { codes = result.codes; deltas = result.deltas }) result.cursor rows.new }
-    ensures sound_deltas { SoundDeltas result.deltas }
+fn channel_codes(r: &mut Reader<'_>, blk: u8, nfchans: u8, coded: Coded) -> Result<Coded, Refusal>
+    requires { (nfchans ≤ 5) × SoundDeltas coded.deltas }
+    ensures reads { Reads (for 0 nfchans coded (grammar.channel_code blk)) r.old result r.new }
+    ensures sound_deltas { IfOk result (λ next. SoundDeltas next.deltas) }
 {
-    let mut codes = codes;
-    let mut deltas = deltas;
-    let mut cursor = c;
+    let mut coded = coded;
     for ch in 0..nfchans {
-        let next = delta_code(s, rows, cursor, blk, ch, names::DELTBAE, ch, codes, deltas);
-        codes = next.codes;
-        deltas = next.deltas;
-        cursor = next.cursor;
+        coded = delta_code(r, blk, ch, nth(blk, names::DELTBAE, ch), coded)?;
     }
-    CodesRead {
-        codes,
-        deltas,
-        cursor,
-    }
+    Ok(coded)
 }
 
 // ---- segments
-
-#[derive(Drop)]
-struct SegmentsRead {
-    segments: [u8; 24],
-    cursor: Cursor,
-}
 
 // A name that coupling and the channels have each of their own.
 fn delta_name(slot: u8, coupling: u8, channel: u8) -> u8
@@ -169,183 +98,125 @@ fn with_segment(segments: [u8; 24], seg: usize, offset: u32, len: u32, code: u32
 
 // A segment: the bands that it skips, its length and its code.
 fn segment(
-    s: &[u8],
-    rows: &mut [i32],
-    c: Cursor,
+    r: &mut Reader<'_>,
     blk: u8,
     slot: u8,
     seg: usize,
     segments: [u8; 24],
-) -> SegmentsRead
+) -> Result<[u8; 24], Refusal>
     requires { (seg < 8) × SoundCodes segments }
-    ensures reads { Reads (grammar.segment blk slot seg segments) s.now c rows.old result.segments result.cursor rows.new }
-    ensures sound_codes { SoundCodes result.segments }
+    ensures reads { Reads (grammar.segment blk slot seg segments) r.old result r.new }
+    ensures sound_codes { IfOk result SoundCodes }
 {
     let offset_name = delta_name(slot, names::CPLDELTOFFST, names::DELTOFFST);
     let length_name = delta_name(slot, names::CPLDELTLEN, names::DELTLEN);
     let code_name = delta_name(slot, names::CPLDELTBA, names::DELTBA);
     let part = seg as u8;
-    let deltoffst = take(s, rows, c, part_of(blk, offset_name, slot, part), 5);
-    let deltlen = take(
-        s,
-        rows,
-        deltoffst.cursor,
-        part_of(blk, length_name, slot, part),
-        4,
-    );
-    let deltba = take(
-        s,
-        rows,
-        deltlen.cursor,
-        part_of(blk, code_name, slot, part),
-        3,
-    );
-    let segments = with_segment(segments, seg, deltoffst.value, deltlen.value, deltba.value);
-    let cursor = deltba.cursor;
-    SegmentsRead { segments, cursor }
-}
-
-#[derive(Drop)]
-struct SlotRead {
-    deltas: Deltas,
-    cursor: Cursor,
+    let deltoffst = r.take(part_of(blk, offset_name, slot, part), 5)?;
+    let deltlen = r.take(part_of(blk, length_name, slot, part), 4)?;
+    let deltba = r.take(part_of(blk, code_name, slot, part), 3)?;
+    Ok(with_segment(segments, seg, deltoffst, deltlen, deltba))
 }
 
 // All segments of a slot.
-fn new_deltas(s: &[u8], rows: &mut [i32], c: Cursor, blk: u8, slot: u8) -> SlotRead
-    ensures reads { Reads (grammar.new_deltas blk slot) s.now c rows.old result.deltas result.cursor rows.new }
-    ensures sound_segments { SoundSegments result.deltas }
+fn new_deltas(r: &mut Reader<'_>, blk: u8, slot: u8) -> Result<Deltas, Refusal>
+    ensures reads { Reads (grammar.new_deltas blk slot) r.old result r.new }
+    ensures sound_segments { IfOk result SoundSegments }
 {
     let name = delta_name(slot, names::CPLDELTNSEG, names::DELTNSEG);
-    let deltnseg = take(s, rows, c, nth(blk, name, slot), 3);
-    let count = deltnseg.value as usize + 1;
+    let deltnseg = r.take(nth(blk, name, slot), 3)?;
+    let count = deltnseg as usize + 1;
     let mut segments = [0u8; 24];
-    let mut cursor = deltnseg.cursor;
     for seg in 0..count {
-        let next = segment(s, rows, cursor, blk, slot, seg, segments);
-        segments = next.segments;
-        cursor = next.cursor;
+        segments = segment(r, blk, slot, seg, segments)?;
     }
-    SlotRead {
-        deltas: Deltas {
-            count: count as u8,
-            segments,
-        },
-        cursor,
-    }
-}
-
-// The segments of the slots, and where reading stands.
-#[derive(Drop)]
-pub struct DeltasRead {
-    pub deltas: [Deltas; 7],
-    pub cursor: Cursor,
+    Ok(Deltas {
+        count: count as u8,
+        segments,
+    })
 }
 
 // New segments of a slot that announced them.
 fn slot_deltas(
-    s: &[u8],
-    rows: &mut [i32],
-    c: Cursor,
+    r: &mut Reader<'_>,
     blk: u8,
     codes: [u8; 7],
     slot: u8,
     deltas: [Deltas; 7],
-) -> DeltasRead
+) -> Result<[Deltas; 7], Refusal>
     requires { (slot < 7) × SoundDeltas deltas }
-    ensures reads { Reads (grammar.slot_deltas blk codes slot deltas) s.now c rows.old result.deltas result.cursor rows.new }
-    ensures sound_deltas { SoundDeltas result.deltas }
+    ensures reads { Reads (grammar.slot_deltas blk codes slot deltas) r.old result r.new }
+    ensures sound_deltas { IfOk result SoundDeltas }
 {
     let at = slot as usize;
     if codes[at] != 1 {
-        return DeltasRead { deltas, cursor: c };
+        return Ok(deltas);
     }
-    let new = new_deltas(s, rows, c, blk, slot);
-    let mut deltas = deltas;
-    let segments = new.deltas;
-    deltas[at] = segments;
-    let cursor = new.cursor;
-    DeltasRead { deltas, cursor }
+    let mut next = deltas;
+    next[at] = new_deltas(r, blk, slot)?;
+    Ok(next)
 }
 
 // The same for the channels, one after the other.
 fn channel_deltas(
-    s: &[u8],
-    rows: &mut [i32],
-    c: Cursor,
+    r: &mut Reader<'_>,
     blk: u8,
     nfchans: u8,
     codes: [u8; 7],
     deltas: [Deltas; 7],
-) -> DeltasRead
+) -> Result<[Deltas; 7], Refusal>
     requires { (nfchans ≤ 5) × SoundDeltas deltas }
-    ensures reads { Reads (for 0 nfchans deltas (grammar.slot_deltas blk codes)) s.now c rows.old result.deltas result.cursor rows.new }
-    ensures sound_deltas { SoundDeltas result.deltas }
+    ensures reads { Reads (for 0 nfchans deltas (grammar.slot_deltas blk codes)) r.old result r.new }
+    ensures sound_deltas { IfOk result SoundDeltas }
 {
     let mut deltas = deltas;
-    let mut cursor = c;
     for ch in 0..nfchans {
-        let next = slot_deltas(s, rows, cursor, blk, codes, ch, deltas);
-        deltas = next.deltas;
-        cursor = next.cursor;
+        deltas = slot_deltas(r, blk, codes, ch, deltas)?;
     }
-    DeltasRead { deltas, cursor }
+    Ok(deltas)
 }
 
 // ---- a block
 
 // All codes, and then all new segments.
 fn coded_deltas(
-    s: &[u8],
-    rows: &mut [i32],
-    c: Cursor,
+    r: &mut Reader<'_>,
     blk: u8,
     nfchans: u8,
     cplinu: bool,
     old: [Deltas; 7],
-) -> DeltasRead
+) -> Result<[Deltas; 7], Refusal>
     requires { (nfchans ≤ 5) × SoundDeltas old }
-    ensures reads { Reads (grammar.coded_deltas blk nfchans cplinu old) s.now c rows.old result.deltas result.cursor rows.new }
-    ensures sound_deltas { SoundDeltas result.deltas }
+    ensures reads { Reads (grammar.coded_deltas blk nfchans cplinu old) r.old result r.new }
+    ensures sound_deltas { IfOk result SoundDeltas }
 {
-    let coupling = coupling_code(s, rows, c, blk, cplinu, old);
-    let codes = coupling.codes;
-    let deltas = coupling.deltas;
-    let channels = channel_codes(s, rows, coupling.cursor, blk, nfchans, codes, deltas);
-    let codes = channels.codes;
-    let deltas = channels.deltas;
-    let new = slot_deltas(s, rows, channels.cursor, blk, codes, CPL, deltas);
-    let deltas = new.deltas;
-    channel_deltas(s, rows, new.cursor, blk, nfchans, codes, deltas)
+    let start = Coded {
+        codes: [0; 7],
+        deltas: old,
+    };
+    let coupling = coupling_code(r, blk, cplinu, start)?;
+    let coded = channel_codes(r, blk, nfchans, coupling)?;
+    let deltas = slot_deltas(r, blk, coded.codes, CPL, coded.deltas)?;
+    channel_deltas(r, blk, nfchans, coded.codes, deltas)
 }
 
 // The delta bit allocation of a block. Where deltbaie is 0 the segments stay; in block 0 there are none.
 pub fn deltas(
-    s: &[u8],
-    rows: &mut [i32],
-    c: Cursor,
+    r: &mut Reader<'_>,
     blk: u8,
     nfchans: u8,
     cplinu: bool,
     old: [Deltas; 7],
-) -> DeltasRead
+) -> Result<[Deltas; 7], Refusal>
     requires { (nfchans ≤ 5) × SoundDeltas old }
-    ensures reads { Reads (grammar.deltas blk nfchans cplinu old) s.now c rows.old result.deltas result.cursor rows.new }
-    ensures sound_deltas { SoundDeltas result.deltas }
+    ensures reads { Reads (grammar.deltas blk nfchans cplinu old) r.old result r.new }
+    ensures sound_deltas { IfOk result SoundDeltas }
 {
-    let deltbaie = flag(s, rows, c, one(blk, names::DELTBAIE));
-    let cursor = deltbaie.cursor;
-    if deltbaie.set {
-        return coded_deltas(s, rows, cursor, blk, nfchans, cplinu, old);
+    if r.flag(one(blk, names::DELTBAIE))? {
+        return coded_deltas(r, blk, nfchans, cplinu, old);
     }
     if blk == 0 {
-        return DeltasRead {
-            deltas: [NO_DELTAS; 7],
-            cursor,
-        };
+        return Ok([NO_DELTAS; 7]);
     }
-    DeltasRead {
-        deltas: old,
-        cursor,
-    }
+    Ok(old)
 }

@@ -1,58 +1,42 @@
 // Where the excitation of coupling starts (4.3.3, 4.4.3.44 to .46).
+ghost use Rattle.std.specs.Prelude.{IfOk};
 ghost use Rattle.syntax.specs.Reads.{Reads};
 ghost use Rattle.slots.specs.Sound.{SoundLeak};
 ghost use Rattle.parameters.specs.Parameters as grammar;
 
 use slots::CouplingLeak;
 use syntax::items::one;
-use syntax::readers::{flag, take};
-use syntax::{Cursor, names};
+use syntax::{Reader, Refusal, names};
 
-#[derive(Drop)]
-pub struct LeakRead {
-    pub leak: CouplingLeak,
-    pub cursor: Cursor,
-}
-
-fn new_leak(s: &[u8], rows: &mut [i32], c: Cursor, blk: u8) -> LeakRead
-    ensures reads { Reads (grammar.new_leak blk) s.now c rows.old result.leak result.cursor rows.new }
-    ensures sound_leak { SoundLeak result.leak }
+fn new_leak(r: &mut Reader<'_>, blk: u8) -> Result<CouplingLeak, Refusal>
+    ensures reads { Reads (grammar.new_leak blk) r.old result r.new }
+    ensures sound_leak { IfOk result SoundLeak }
 {
-    let cplfleak = take(s, rows, c, one(blk, names::CPLFLEAK), 3);
-    let cplsleak = take(s, rows, cplfleak.cursor, one(blk, names::CPLSLEAK), 3);
-    let cursor = cplsleak.cursor;
-    LeakRead {
-        leak: CouplingLeak {
-            sent: true,
-            cplfleak: cplfleak.value as u8,
-            cplsleak: cplsleak.value as u8,
-        },
-        cursor,
-    }
+    let cplfleak = r.take(one(blk, names::CPLFLEAK), 3)?;
+    let cplsleak = r.take(one(blk, names::CPLSLEAK), 3)?;
+    Ok(CouplingLeak {
+        sent: true,
+        cplfleak: cplfleak as u8,
+        cplsleak: cplsleak as u8,
+    })
 }
 
+// The leak of a block: a new one where coupling is in use and sends it, else the one in force.
 pub fn coupling_leak(
-    s: &[u8],
-    rows: &mut [i32],
-    c: Cursor,
+    r: &mut Reader<'_>,
     blk: u8,
     cplinu: bool,
     old: CouplingLeak,
-) -> LeakRead
+) -> Result<CouplingLeak, Refusal>
     requires { SoundLeak old }
-    ensures reads { Reads (grammar.coupling_leak blk cplinu old) s.now c rows.old result.leak result.cursor rows.new }
-    ensures sound_leak { SoundLeak result.leak }
+    ensures reads { Reads (grammar.coupling_leak blk cplinu old) r.old result r.new }
+    ensures sound_leak { IfOk result SoundLeak }
 {
-    if cplinu {
-        let cplleake = flag(s, rows, c, one(blk, names::CPLLEAKE));
-        let cursor = cplleake.cursor;
-        if cplleake.set {
-            return new_leak(s, rows, cursor, blk);
-        }
-        return LeakRead { leak: old, cursor };
+    if !cplinu {
+        return Ok(old);
     }
-    LeakRead {
-        leak: old,
-        cursor: c,
+    if r.flag(one(blk, names::CPLLEAKE))? {
+        return new_leak(r, blk);
     }
+    Ok(old)
 }

@@ -1,174 +1,119 @@
 // The SNR offsets and fast gains (4.3.3, 4.4.3.36 to .43): a coarse offset, and a fine one with a gain for each slot in use.
-ghost use Rattle.std.specs.Prelude.{◌<◌, ◌≤◌};
-ghost use Rattle.syntax.specs.Grammar.{one, nth, read_if, for};
+ghost use Rattle.std.specs.Prelude.{◌<◌, ◌≤◌, IfOk};
+ghost use Rattle.syntax.specs.Grammar.{read_if, for};
 ghost use Rattle.syntax.specs.Reads.{Reads};
 ghost use Rattle.slots.specs.Sound.{SoundOffsets};
 ghost use Rattle.parameters.specs.Parameters as grammar;
 
 use slots::{CPL, LFE, Offsets};
-use syntax::elements::announced;
 use syntax::items::{nth, one};
-use syntax::readers::take;
-use syntax::refusals::NO_OFFSETS;
-use syntax::{Cursor, NONE, names};
+use syntax::{Item, Reader, Refusal, names};
 
-#[derive(Drop)]
-pub struct OffsetsRead {
-    pub offsets: Offsets,
-    pub cursor: Cursor,
-}
-
-// The fine offset and the fast gain of a slot, by the names of the two and their index.
+// The fine offset and the fast gain of a slot, by the elements that send the two.
 fn fine_offset(
-    s: &[u8],
-    rows: &mut [i32],
-    c: Cursor,
-    blk: u8,
+    r: &mut Reader<'_>,
     slot: u8,
-    offset: u8,
-    gain: u8,
-    index: u8,
+    offset: Item,
+    gain: Item,
     old: Offsets,
-) -> OffsetsRead
+) -> Result<Offsets, Refusal>
     requires slot_bound { slot < 7 }
     requires sound_offsets { SoundOffsets old }
-    ensures reads { Reads (grammar.fine_offset slot (nth blk offset index) (nth blk gain index) old) s.now c rows.old result.offsets result.cursor rows.new }
-    ensures sound_offsets_2 { SoundOffsets result.offsets }
+    ensures reads { Reads (grammar.fine_offset slot offset gain old) r.old result r.new }
+    ensures sound_offsets_2 { IfOk result SoundOffsets }
 {
-    let fsnroffst = take(s, rows, c, nth(blk, offset, index), 4);
-    let fgaincod = take(s, rows, fsnroffst.cursor, nth(blk, gain, index), 3);
+    let fsnroffst = r.take(offset, 4)?;
+    let fgaincod = r.take(gain, 3)?;
     let mut offsets = old;
-    offsets.fsnroffst[slot as usize] = fsnroffst.value as u8;
-    offsets.fgaincod[slot as usize] = fgaincod.value as u8;
-    let cursor = fgaincod.cursor;
-    OffsetsRead { offsets, cursor }
+    offsets.fsnroffst[slot as usize] = fsnroffst as u8;
+    offsets.fgaincod[slot as usize] = fgaincod as u8;
+    Ok(offsets)
 }
 
-// Those of coupling and LFE, which stand only where the slot is in use and have no index.
+// Those of coupling and LFE, which stand only where the slot is in use.
 fn fine_offset_when(
-    s: &[u8],
-    rows: &mut [i32],
-    c: Cursor,
-    blk: u8,
+    r: &mut Reader<'_>,
     used: bool,
     slot: u8,
-    offset: u8,
-    gain: u8,
+    offset: Item,
+    gain: Item,
     old: Offsets,
-) -> OffsetsRead
+) -> Result<Offsets, Refusal>
     requires slot_bound { slot < 7 }
     requires sound_offsets { SoundOffsets old }
-    ensures reads { Reads (read_if used old (grammar.fine_offset slot (one blk offset) (one blk gain) old)) s.now c rows.old result.offsets result.cursor rows.new }
-    ensures sound_offsets_2 { SoundOffsets result.offsets }
+    ensures reads { Reads (read_if used old (grammar.fine_offset slot offset gain old)) r.old result r.new }
+    ensures sound_offsets_2 { IfOk result SoundOffsets }
 {
     if used {
-        return fine_offset(s, rows, c, blk, slot, offset, gain, NONE, old);
+        return fine_offset(r, slot, offset, gain, old);
     }
-    OffsetsRead {
-        offsets: old,
-        cursor: c,
-    }
+    Ok(old)
 }
 
 // Those of the full bandwidth channels.
 fn channel_offsets(
-    s: &[u8],
-    rows: &mut [i32],
-    c: Cursor,
+    r: &mut Reader<'_>,
     blk: u8,
     nfchans: u8,
     old: Offsets,
-) -> OffsetsRead
+) -> Result<Offsets, Refusal>
     requires nfchans_bound { nfchans ≤ 5 }
     requires sound_offsets { SoundOffsets old }
-    ensures reads { Reads (for 0 nfchans old (grammar.channel_offset blk)) s.now c rows.old result.offsets result.cursor rows.new }
-    ensures sound_offsets_2 { SoundOffsets result.offsets }
+    ensures reads { Reads (for 0 nfchans old (grammar.channel_offset blk)) r.old result r.new }
+    ensures sound_offsets_2 { IfOk result SoundOffsets }
 {
     let mut offsets = old;
-    let mut cursor = c;
     for ch in 0..nfchans {
-        let fine = fine_offset(
-            s,
-            rows,
-            cursor,
-            blk,
-            ch,
-            names::FSNROFFST,
-            names::FGAINCOD,
-            ch,
-            offsets,
-        );
-        offsets = fine.offsets;
-        cursor = fine.cursor;
+        let offset = nth(blk, names::FSNROFFST, ch);
+        let gain = nth(blk, names::FGAINCOD, ch);
+        offsets = fine_offset(r, ch, offset, gain, offsets)?;
     }
-    OffsetsRead { offsets, cursor }
+    Ok(offsets)
 }
 
 fn new_offsets(
-    s: &[u8],
-    rows: &mut [i32],
-    c: Cursor,
+    r: &mut Reader<'_>,
     blk: u8,
     nfchans: u8,
     cplinu: bool,
     lfeon: bool,
     old: Offsets,
-) -> OffsetsRead
+) -> Result<Offsets, Refusal>
     requires nfchans_bound { nfchans ≤ 5 }
     requires sound_offsets { SoundOffsets old }
-    ensures reads { Reads (grammar.new_offsets blk nfchans cplinu lfeon old) s.now c rows.old result.offsets result.cursor rows.new }
-    ensures sound_offsets_2 { SoundOffsets result.offsets }
+    ensures reads { Reads (grammar.new_offsets blk nfchans cplinu lfeon old) r.old result r.new }
+    ensures sound_offsets_2 { IfOk result SoundOffsets }
 {
-    let csnroffst = take(s, rows, c, one(blk, names::CSNROFFST), 6);
-    let mut o = old;
-    o.csnroffst = csnroffst.value as u8;
-    let cpl = fine_offset_when(
-        s,
-        rows,
-        csnroffst.cursor,
-        blk,
-        cplinu,
-        CPL,
-        names::CPLFSNROFFST,
-        names::CPLFGAINCOD,
-        o,
-    );
-    let channels = channel_offsets(s, rows, cpl.cursor, blk, nfchans, cpl.offsets);
-    fine_offset_when(
-        s,
-        rows,
-        channels.cursor,
-        blk,
-        lfeon,
-        LFE,
-        names::LFEFSNROFFST,
-        names::LFEFGAINCOD,
-        channels.offsets,
-    )
+    let csnroffst = r.take(one(blk, names::CSNROFFST), 6)?;
+    let coarse = Offsets {
+        csnroffst: csnroffst as u8,
+        ..old
+    };
+    let offset = one(blk, names::CPLFSNROFFST);
+    let gain = one(blk, names::CPLFGAINCOD);
+    let coupling = fine_offset_when(r, cplinu, CPL, offset, gain, coarse)?;
+    let channels = channel_offsets(r, blk, nfchans, coupling)?;
+    let offset = one(blk, names::LFEFSNROFFST);
+    let gain = one(blk, names::LFEFGAINCOD);
+    fine_offset_when(r, lfeon, LFE, offset, gain, channels)
 }
 
+// The offsets of a block: new ones where they are announced, else those in force.
 pub fn offsets(
-    s: &[u8],
-    rows: &mut [i32],
-    c: Cursor,
+    r: &mut Reader<'_>,
     blk: u8,
     nfchans: u8,
     cplinu: bool,
     lfeon: bool,
     old: Offsets,
-) -> OffsetsRead
+) -> Result<Offsets, Refusal>
     requires nfchans_bound { nfchans ≤ 5 }
     requires sound_offsets { SoundOffsets old }
-    ensures reads { Reads (grammar.offsets blk nfchans cplinu lfeon old) s.now c rows.old result.offsets result.cursor rows.new }
-    ensures sound_offsets_2 { SoundOffsets result.offsets }
+    ensures reads { Reads (grammar.offsets blk nfchans cplinu lfeon old) r.old result r.new }
+    ensures sound_offsets_2 { IfOk result SoundOffsets }
 {
-    let snroffste = announced(s, rows, c, blk, names::SNROFFSTE, NO_OFFSETS);
-    let cursor = snroffste.cursor;
-    if snroffste.set {
-        return new_offsets(s, rows, cursor, blk, nfchans, cplinu, lfeon, old);
+    if r.announced(blk, names::SNROFFSTE, Refusal::NoOffsets)? {
+        return new_offsets(r, blk, nfchans, cplinu, lfeon, old);
     }
-    OffsetsRead {
-        offsets: old,
-        cursor,
-    }
+    Ok(old)
 }

@@ -1,33 +1,18 @@
 -- The register a byte at a time is the register bit by bit, and eight shifts are a table's entry and a move by eight places.
 -- Assumes nothing.
-use Prim.Native.Nat.{ℕ, zero, suc, ◌+◌, ◌*◌, ◌/◌, ◌%◌, ◌-◌, ◌^◌, ◌≤◌, ◌<◌}
+use Prim.Native.Nat.{ℕ, ◌+◌, ◌*◌, ◌/◌, ◌%◌, ◌-◌, ◌≤◌, ◌<◌}
 use mathlib.Core.Path.{◌≡◌, refl, ap, ap₂, sym, ◌∙◌}
 use mathlib.Core.List.{List}
-use native.Mathlib.Numerals.{add-one}
 use native.Mathlib.Omega.{arith}
 use lib.Bits.{bit_xor, xor_lt, xor_mod, xor_shr, xor_zero_r, xor_shifted, xor_comm}
 use lib.Dec.{lit<}
 use lib.ListN.{get_or}
-use lib.Pow.{shr-shr}
-use Rattle.bits.specs.Bits.{bit_at, value}
+use Rattle.bits.proofs.Window.{value_byte}
 use Rattle.crc.specs.Register.{run, unrun, register, times}
 use Rattle.crc.specs.Bytes.{fed, unfed, ByByte}
 use Rattle.crc.proofs.Xor.{xor_again}
 use Rattle.crc.proofs.Shift.{shifts, unshifts, unshifts_lt, shifts_unshifts, shifts_sum, unshifts_sum, shifts_low, unshifts_even}
 use Rattle.crc.proofs.Run.{run_lt, unrun_run, run_add, unrun_add, at_once}
-
--- the first n bits of a byte spell what is left of it without the other d
-value_top : (s : List ℕ) (i n d : ℕ) → n + d ≡ 8 → get_or s i 0 < 256 → value s (i * 8) n ≡ get_or s i 0 / 2 ^ d
-unfolding value bit_at
-value_top s i zero d e h = let all : d ≡ 8 = omega arith in rw all (omega arith)
-value_top s i (suc n) d e h =
-    let fewer : n + suc d ≡ 8 = omega arith in
-    let byte : (i * 8 + n) / 8 ≡ i = omega arith in
-    let bit : 7 - (i * 8 + n) % 8 ≡ d = omega arith in
-    rw (value_top s i n (suc d) fewer h, byte, bit, ← add-one d, ← shr-shr (get_or s i 0) d 1) (omega arith)
-
-value_byte : (s : List ℕ) (i : ℕ) → get_or s i 0 < 256 → value s (i * 8) 8 ≡ get_or s i 0
-value_byte s i h = value_top s i 8 0 refl h ∙ omega arith
 
 pub by_byte : ByByte
 unfolding fed unfed

@@ -1,36 +1,36 @@
 // The entries of the tables, which lib.rt reads.
 
 // Table 4.3.
-pub(crate) const NFCHANS: [u8; 8] = [2, 1, 2, 3, 3, 4, 4, 5];
+pub(crate) static NFCHANS: [u8; 8] = [2, 1, 2, 3, 3, 4, 4, 5];
 
 // Table 4.13 at 48 kHz, by half of frmsizecod.
-pub(crate) const WORDS_48: [u16; 19] = [
+pub(crate) static WORDS_48: [u16; 19] = [
     64, 80, 96, 112, 128, 160, 192, 224, 256, 320, 384, 448, 512, 640, 768, 896, 1024, 1152, 1280,
 ];
 
 // Table 4.13 at 44.1 kHz, by frmsizecod.
-pub(crate) const WORDS_44: [u16; 38] = [
+pub(crate) static WORDS_44: [u16; 38] = [
     69, 70, 87, 88, 104, 105, 121, 122, 139, 140, 174, 175, 208, 209, 243, 244, 278, 279, 348, 349,
     417, 418, 487, 488, 557, 558, 696, 697, 835, 836, 975, 976, 1114, 1115, 1253, 1254, 1393, 1394,
 ];
 
 // Table 6.6.
-pub(crate) const SLOW_DECAY: [u16; 4] = [15, 17, 19, 21];
+pub(crate) static SLOW_DECAY: [u16; 4] = [15, 17, 19, 21];
 
 // Table 6.7.
-pub(crate) const FAST_DECAY: [u16; 4] = [63, 83, 103, 123];
+pub(crate) static FAST_DECAY: [u16; 4] = [63, 83, 103, 123];
 
 // Table 6.8.
-pub(crate) const SLOW_GAIN: [u16; 4] = [1344, 1240, 1144, 1040];
+pub(crate) static SLOW_GAIN: [u16; 4] = [1344, 1240, 1144, 1040];
 
 // Table 6.9.
-pub(crate) const DB_KNEE: [u16; 4] = [0, 1792, 2304, 2816];
+pub(crate) static DB_KNEE: [u16; 4] = [0, 1792, 2304, 2816];
 
 // Table 6.10.
-pub(crate) const FLOOR: [i32; 8] = [752, 688, 624, 560, 496, 368, 240, -2048];
+pub(crate) static FLOOR: [i32; 8] = [752, 688, 624, 560, 496, 368, 240, -2048];
 
 // Table 6.11.
-pub(crate) const FAST_GAIN: [u16; 8] = [128, 256, 384, 512, 640, 768, 896, 1024];
+pub(crate) static FAST_GAIN: [u16; 8] = [128, 256, 384, 512, 640, 768, 896, 1024];
 
 // Table 6.12: the first bin past each band.
 pub(crate) const BAND_END: [u8; 50] = [
@@ -84,7 +84,7 @@ pub(crate) const HEBAP: [u8; 64] = [
 ];
 
 // Table E.2.2: vector indices, by hebap 0 to 7.
-pub(crate) const VQ_BITS: [usize; 8] = [0, 2, 3, 4, 5, 7, 8, 9];
+pub(crate) static VQ_BITS: [usize; 8] = [0, 2, 3, 4, 5, 7, 8, 9];
 
 // Table E.2.2: mantissas, by hebap 8 to 19 less 8.
-pub(crate) const GAQ_BITS: [usize; 12] = [3, 4, 5, 6, 7, 8, 9, 10, 11, 12, 14, 16];
+pub(crate) static GAQ_BITS: [usize; 12] = [3, 4, 5, 6, 7, 8, 9, 10, 11, 12, 14, 16];

@@ -1,6 +1,6 @@
 // The tables of TS 102 366. One function reads each, since a table that stands in a goal is written out there. Past its last
 // entry a table has 0.
-#![tactic(auto)]
+#![tactic(auto, unfolding(crate::specs::Tables::slow_decay, crate::specs::Tables::fast_decay, crate::specs::Tables::slow_gain, crate::specs::Tables::knee, crate::specs::Tables::fast_gain, crate::specs::Tables::vq_bits, crate::specs::Tables::band_end, crate::specs::Tables::log_add, crate::specs::Tables::hearing, crate::specs::Tables::bap, crate::specs::Tables::hebap))]
 
 mod entries;
 
@@ -8,145 +8,104 @@ ghost use Rattle.std.specs.Prelude.{◌≡◌, ◌≤◌, get_or};
 ghost use Rattle.signed.specs.Bound.{Below};
 ghost use Rattle.tables.specs.Tables as standard;
 
+// The entry at a place; past the last one what stands for it there.
+fn entry<T: Copy>(table: &[T], at: u8, past: T) -> T
+    ensures { result ≡ get_or table.now at past }
+{
+    table.get(usize::from(at)).copied().unwrap_or(past)
+}
+
 // Table 4.3: full bandwidth channels.
 pub fn nfchans(acmod: u8) -> u8
     ensures { (result ≡ standard.nfchans acmod) × (result ≤ 5) }
 {
-    if acmod < 8 {
-        entries::NFCHANS[acmod as usize]
-    } else {
-        0
-    }
+    entry(&entries::NFCHANS, acmod, 0)
 }
 
 // Table 4.13 at 48 kHz: words to a frame, by half of frmsizecod.
 fn words_48(half: u8) -> u16
     ensures { (result ≡ get_or standard.words48 half 0) × (result ≤ 1280) }
 {
-    if half < 19 {
-        entries::WORDS_48[half as usize]
-    } else {
-        0
-    }
+    entry(&entries::WORDS_48, half, 0)
 }
 
 // Table 4.13 at 44.1 kHz: words to a frame, by frmsizecod.
 fn words_44(frmsizecod: u8) -> u16
     ensures { (result ≡ get_or standard.words44 frmsizecod 0) × (result ≤ 1394) }
 {
-    if frmsizecod < 38 {
-        entries::WORDS_44[frmsizecod as usize]
-    } else {
-        0
-    }
+    entry(&entries::WORDS_44, frmsizecod, 0)
 }
 
 // Table 4.13: bytes of a frame; 0 where there is no such frame.
 pub fn frame_bytes(fscod: u8, frmsizecod: u8) -> u16
     ensures { (result ≡ standard.frame_bytes fscod frmsizecod) × (result ≤ 3840) }
 {
-    if fscod == 0 {
-        return 2 * words_48(frmsizecod / 2);
+    match fscod {
+        0 => 2 * words_48(frmsizecod / 2),
+        1 => 2 * words_44(frmsizecod),
+        // At 32 kHz a frame has half as many words again as at 48.
+        2 => 3 * words_48(frmsizecod / 2),
+        _ => 0,
     }
-    if fscod == 1 {
-        return 2 * words_44(frmsizecod);
-    }
-    // At 32 kHz a frame has half as many words again as at 48.
-    if fscod == 2 {
-        return 3 * words_48(frmsizecod / 2);
-    }
-    0
 }
 
 // Table 6.6.
 pub fn slow_decay(sdcycod: u8) -> u16
     ensures { result ≡ standard.slow_decay sdcycod }
 {
-    if sdcycod < 4 {
-        entries::SLOW_DECAY[sdcycod as usize]
-    } else {
-        0
-    }
+    entry(&entries::SLOW_DECAY, sdcycod, 0)
 }
 
 // Table 6.7.
 pub fn fast_decay(fdcycod: u8) -> u16
     ensures { result ≡ standard.fast_decay fdcycod }
 {
-    if fdcycod < 4 {
-        entries::FAST_DECAY[fdcycod as usize]
-    } else {
-        0
-    }
+    entry(&entries::FAST_DECAY, fdcycod, 0)
 }
 
 // Table 6.8.
 pub fn slow_gain(sgaincod: u8) -> u16
     ensures { result ≡ standard.slow_gain sgaincod }
 {
-    if sgaincod < 4 {
-        entries::SLOW_GAIN[sgaincod as usize]
-    } else {
-        0
-    }
+    entry(&entries::SLOW_GAIN, sgaincod, 0)
 }
 
 // Table 6.9.
 pub fn db_knee(dbpbcod: u8) -> u16
     ensures { result ≡ standard.knee dbpbcod }
 {
-    if dbpbcod < 4 {
-        entries::DB_KNEE[dbpbcod as usize]
-    } else {
-        0
-    }
+    entry(&entries::DB_KNEE, dbpbcod, 0)
 }
 
 // Table 6.10.
 pub fn floor(floorcod: u8) -> i32
     ensures { (result ≡ standard.floor floorcod) × Below 11 result }
 {
-    if floorcod < 8 {
-        entries::FLOOR[floorcod as usize]
-    } else {
-        0
-    }
+    entry(&entries::FLOOR, floorcod, 0)
 }
 
 // Table 6.11.
 pub fn fast_gain(fgaincod: u8) -> u16
     ensures { result ≡ standard.fast_gain fgaincod }
 {
-    if fgaincod < 8 {
-        entries::FAST_GAIN[fgaincod as usize]
-    } else {
-        0
-    }
+    entry(&entries::FAST_GAIN, fgaincod, 0)
 }
 
 // Table E.2.2: the bits of a vector index, by hebap 0 to 7.
 pub fn vq_bits(hebap: u8) -> usize
     ensures { result ≡ standard.vq_bits hebap }
 {
-    if hebap < 8 {
-        entries::VQ_BITS[hebap as usize]
-    } else {
-        0
-    }
+    entry(&entries::VQ_BITS, hebap, 0)
 }
 
 // Table E.2.2: the bits of a mantissa, by hebap 8 to 19 less 8.
 pub fn gaq_bits(index: u8) -> usize
     ensures { (result ≡ standard.gaq_bits index) × (result ≤ 16) }
 {
-    if index < 12 {
-        entries::GAQ_BITS[index as usize]
-    } else {
-        0
-    }
+    entry(&entries::GAQ_BITS, index, 0)
 }
 
-// The tables that loops look into are handed out whole, once a call: an array that is looked up is built anew each time.
+// The tables that loops look into are handed out whole, once a call, so that no goal of a loop has the entries written out.
 
 // Table 6.12: the first bin past each of the 50 bands.
 pub fn band_ends() -> [u8; 50]

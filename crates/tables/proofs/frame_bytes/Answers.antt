@@ -1,16 +1,10 @@
 -- `tables::frame_bytes` meets its contract: each sampling rate's words are the definition's; at 32 kHz they are one and a half times those at
 -- 48 kHz. Assumes nothing.
-use mathlib.Core.Bool.{Bool, true, false, ◌&&◌}
-use mathlib.Core.List.{List, [], ◌∷◌}
-use mathlib.Core.Path.{◌≡◌, ◌∙◌, refl, ap}
-use Prim.Native.Nat.{ℕ, zero, suc, ◌*◌}
-use borrow.Author.Rules.{rules}
-use lib.Dec.{T, eqb, eqb→eq}
-use lib.ListN.{get_or}
-use Rattle.tables.specs.Tables.{frame_bytes, words48, words32}
+use Rattle.std.proofs.Common.{ℕ, zero, suc, ◌*◌, Bool, true, false, ◌&&◌, List, [], ◌∷◌, ◌≡◌, ◌∙◌, refl, ap, get_or, eqb, rules}
+use lib.Dec.{T, eqb→eq}
 use store.Enc.{and_l, and_r}
-use Rattle.tables.proofs.frame_bytes.Statement.{statement}
-use Rattle.tables.proofs.frame_bytes.Tie as tie
+use Rattle.tables.specs.Tables.{frame_bytes, words48, words32}
+use Rattle.tables.proofs.frame_bytes.Goals as goal
 
 -- entry by entry, 3 of one list are 2 of another
 abbrev thirds : List ℕ → List ℕ → Bool
@@ -37,18 +31,17 @@ no_rate (suc zero) code a b c = absurd (b refl)
 no_rate (suc (suc zero)) code a b c = absurd (c refl)
 no_rate (suc (suc (suc n))) code a b c = refl
 
-pub frame_bytes_spec : {M : Type 1} → statement M
+pub returns-in-0 : goal.returns-in-0
 unfolding frame_bytes
-frame_bytes_spec =
-    tie.close
-    (tie.spec
-    (λ c κs. search rules)
-    (λ c. search rules)
-    (λ c. (rw c.before.if-fscod-eq0.true (ap (◌*◌ 2) c.words_48.ensures.0), search rules))
-    (λ c κs. search rules)
-    (λ c. search rules)
-    (λ c. (rw c.before.if-fscod-eq1.true (ap (◌*◌ 2) c.words_44.ensures.0), search rules))
-    (λ c κs. search rules)
-    (λ c. search rules)
-    (λ c. (rw c.before.if-fscod-eq2.true (ap (◌*◌ 3) c.words_48-then-fscod-eq2.ensures.0 ∙ at_32 _), search rules))
-    (λ c. (no_rate _ _ c.before.before.if-fscod-eq0.false c.before.if-fscod-eq1.false c.if-fscod-eq2.false, search rules)))
+returns-in-0 c = (rw c.in-0.is (ap (◌*◌ 2) c.words_48.ensures.0), search rules)
+
+pub returns-in-1 : goal.returns-in-1
+unfolding frame_bytes
+returns-in-1 c = (rw c.in-1.is (ap (◌*◌ 2) c.words_44.ensures.0), search rules)
+
+pub returns-in-2 : goal.returns-in-2
+unfolding frame_bytes
+returns-in-2 c = (rw c.in-2.is (ap (◌*◌ 3) c.words_48-in-2.ensures.0 ∙ at_32 _), search rules)
+
+pub returns-in_default : goal.returns-in_default
+returns-in_default c = (no_rate _ _ (search rules) (search rules) (search rules), search rules)

@@ -1,9 +1,11 @@
 -- Bytes written one after the other are written as one list; what lies past the run's end is written nowhere. Assumes nothing.
-use mathlib.Core.List.{List, [], ◌∷◌, ◌++◌}
+use mathlib.Core.List.{List, [], ◌∷◌, ◌++◌, append_assoc}
 use mathlib.Core.Path.{◌≡◌, refl, sym, ap, ◌∙◌}
 use Prim.Native.Nat.{ℕ, suc, ◌+◌, ◌-◌, ◌≤◌, ◌<◌, min}
 use native.Mathlib.Decide.{dec_le}
+use native.Mathlib.Nat.{add-zero}
 use native.Mathlib.Numerals.{add-one}
+use borrow.Rule.Slice.PartMut.{put_mid, post_of, Post-is}
 use native.Mathlib.Omega.{arith}
 use lib.ListN.{length, take, drop, get_or, set, length-set, take-append-drop, drop_of_length-le}
 use Rattle.naturals.proofs.Stored.{sets_append}
@@ -44,3 +46,22 @@ module _ {A : Type 0} where
         rest : Dec (length vs ≤ n) → sets before (at + length (take n vs)) (drop n vs) ≡ before
         rest (Dec.yes h) = ap (sets before (at + length (take n vs))) (drop_of_length-le vs {i = n} h)
         rest (Dec.no h) = sets_out (drop n vs) before (at + length (take n vs)) (omega (arith, long, length-take-le n vs (omega arith)))
+
+    -- what those that fit leave, written to where they fit, as the code does it
+    pub part : (ys : List A) (start n : ℕ) → start ≡ min at (length run) → n ≡ min (length vs) (length run - at) → ys ≡ take n vs
+        → put_mid start (start + n - start) run ys ≡ sets run at vs
+    part ys start n s e y =
+        ap (λ zs. take start run ++ (zs ++ post_of start (start + n - start) run)) y
+        ∙ ap (λ zs. take start run ++ (take n vs ++ zs)) (Post-is start (start + n) run (omega arith)) ∙ by (dec_le at (length run)) ∙ whole n e
+      where
+        fits : length (take n vs) ≡ n
+        fits = length-take-le n vs (omega (arith, e))
+
+        by : Dec (at ≤ length run) → take start run ++ (take n vs ++ drop (start + n) run) ≡ sets run at (take n vs)
+        by (Dec.yes h) =
+            let here : start ≡ at = omega arith in
+            rw here (ap (λ m. take at run ++ (take n vs ++ drop (at + m) run)) (sym fits) ∙ sym (append_assoc (take at run) (take n vs) _) ∙ sym (sets-eq (take n vs) run at (omega (arith, fits))))
+        by (Dec.no h) =
+            let none : n ≡ 0 = omega arith in
+            let end : start ≡ length run = omega arith in
+            rw (none, end, add-zero) (take-append-drop (length run) run)

@@ -10,10 +10,7 @@ ghost use Rattle.writer.specs.Words.{word_bytes};
 fn fitting(room: usize, at: usize, n: usize) -> usize
     ensures { result ≡ min n (room - at) }
 {
-    if room < at {
-        return 0;
-    }
-    naturals::least(n, room - at)
+    n.min(room.saturating_sub(at))
 }
 
 // Copies bytes into a run, from a place on.
@@ -21,11 +18,8 @@ pub fn copy(from: &[u8], run: &mut [u8], at: usize)
     ensures { run.new ≡ sets run.old at from.now }
 {
     let n = fitting(run.len(), at, from.len());
-    let mut i = 0;
-    while i < n {
-        run[at + i] = from[i];
-        i += 1;
-    }
+    let start = at.min(run.len());
+    run[start..start + n].copy_from_slice(&from[..n]);
 }
 
 // Writes one byte so many times into a run, from a place on.
@@ -33,34 +27,23 @@ pub fn fill(run: &mut [u8], at: usize, count: usize, byte: u8)
     ensures { run.new ≡ sets run.old at (replicate count byte) }
 {
     let n = fitting(run.len(), at, count);
-    let mut i = 0;
-    while i < n {
-        run[at + i] = byte;
-        i += 1;
-    }
+    let start = at.min(run.len());
+    run[start..start + n].fill(byte);
 }
 
 // Writes a word into a run, high byte first.
 pub fn word(run: &mut [u8], at: usize, w: u16)
     ensures { run.new ≡ sets run.old at (word_bytes w) }
 {
-    copy(&[(w / 256) as u8, (w % 256) as u8], run, at);
-}
-
-fn wide(n: u16) -> i32
-    ensures { result ≡ pos n }
-{
-    n as i32
+    copy(&w.to_be_bytes(), run, at);
 }
 
 // Writes small numbers to the front of a run, as a caller reads them.
 pub fn numbers(from: &[u16], run: &mut [i32])
     ensures { run.new ≡ sets run.old 0 (map pos from.now) }
 {
-    let n = fitting(run.len(), 0, from.len());
-    let mut i = 0;
-    while i < n {
-        run[i] = wide(from[i]);
-        i += 1;
+    // By index: after a `zip` over `iter_mut` no proof knows the run's numbers.
+    for i in 0..from.len().min(run.len()) {
+        run[i] = i32::from(from[i]);
     }
 }

@@ -43,13 +43,21 @@ fn decimal_size(v: usize) -> usize
     n
 }
 
+// The digit of a number below ten.
+fn digit(v: usize) -> u8
+    requires { v < 10 }
+    ensures { result ≡ 48 + v }
+{
+    b'0' + v as u8
+}
+
 // The two digits of a number from a place on; the place after them.
 fn put_two(out: &mut [u8], at: usize, v: usize) -> usize
     requires { (10 ≤ v) × (v < 100) × (at + length (decimal v) ≤ length out.old) }
     ensures { (result ≡ at + length (decimal v)) × (out.new ≡ sets out.old at (decimal v)) }
 {
-    let to = put(out, at, (48 + v / 10) as u8);
-    put(out, to, (48 + v % 10) as u8)
+    let to = put(out, at, digit(v / 10));
+    put(out, to, digit(v % 10))
 }
 
 // A number's decimal digits from a place on, by two at a time from the last; the place after them.
@@ -58,15 +66,15 @@ fn put_decimal(out: &mut [u8], at: usize, v: usize) -> usize
     ensures { (result ≡ at + length (decimal v)) × (out.new ≡ sets out.old at (decimal v)) }
 {
     if v < 10 {
-        return put(out, at, (48 + v) as u8);
+        return put(out, at, digit(v));
     }
     let tenth = v / 10;
     if tenth < 10 {
         return put_two(out, at, v);
     }
     let to = put_decimal(out, at, tenth / 10);
-    let last = put(out, to, (48 + tenth % 10) as u8);
-    put(out, last, (48 + v % 10) as u8)
+    let last = put(out, to, digit(tenth % 10));
+    put(out, last, digit(v % 10))
 }
 
 // How many bytes of text a stored number takes.
@@ -85,11 +93,11 @@ pub fn put_signed(out: &mut [u8], at: usize, v: usize) -> usize
     ensures { (result ≡ at + length (signed v)) × (out.new ≡ sets out.old at (signed v)) }
 {
     if v == 0 {
-        let to = put(out, at, 45);
-        return put(out, to, 49);
+        let to = put(out, at, b'-');
+        return put(out, to, b'1');
     }
     if v < 11 {
-        return put(out, at, (47 + v) as u8);
+        return put(out, at, digit(v - 1));
     }
     if v < 101 {
         return put_two(out, at, v - 1);
@@ -101,10 +109,7 @@ pub fn put_signed(out: &mut [u8], at: usize, v: usize) -> usize
 pub fn separator_of(left: usize) -> u8
     ensures { result ≡ separator left }
 {
-    if left == 0 {
-        return 10;
-    }
-    32
+    if left == 0 { b'\n' } else { b' ' }
 }
 
 // How many bytes of text a stored number takes, with the separator after it.
@@ -124,15 +129,13 @@ pub fn put_ended(out: &mut [u8], at: usize, v: usize, left: usize) -> usize
 }
 
 // The words of the last line, one after the other.
-const LETTERS: [u8; 14] = [
-    97, 117, 100, 105, 111, 32, 114, 101, 102, 117, 115, 101, 100, 32,
-];
+static LETTERS: [u8; 14] = *b"audio refused ";
 
 // The letter at a place; 0 past the last.
 pub fn letter(at: usize) -> u8
     ensures { result ≡ get_or letters at 0 }
 {
-    if at < 14 { LETTERS[at] } else { 0 }
+    LETTERS.get(at).copied().unwrap_or(0)
 }
 
 // The letters from one on, up to a last one, from a place on; the place after them.
@@ -140,11 +143,7 @@ pub fn put_word(out: &mut [u8], at: usize, from: usize, end: usize) -> usize
     requires { (from ≤ end) × (end ≤ 14) × (at + (end - from) ≤ length out.old) }
     ensures { (result ≡ at + (end - from)) × (out.new ≡ sets out.old at (slice from end letters)) }
 {
-    let mut to = at;
-    let mut j = from;
-    while j < end {
-        to = put(out, to, letter(j));
-        j += 1;
-    }
+    let to = at + (end - from);
+    out[at..to].copy_from_slice(&LETTERS[from..end]);
     to
 }

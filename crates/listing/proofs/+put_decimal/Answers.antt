@@ -12,7 +12,7 @@ pub put-requires : goal.put-requires
 put-requires t c = omega (arith, ap length (decimal_small c.if-v-lt10.true), c.requires)
 
 pub returns-then-v-lt10 : goal.returns-then-v-lt10
-returns-then-v-lt10 t c = rw (decimal_small c.if-v-lt10.true) c.put.ensures
+returns-then-v-lt10 t c = rw (decimal_small c.if-v-lt10.true) (rw c.digit.ensures at c.put.ensures)
 
 pub put_decimal-to-requires : goal.put_decimal-to-requires
 put_decimal-to-requires t c =
@@ -39,5 +39,5 @@ returns t c =
     let v = c.args.v in
     rw (decimal_pair c.if-v-lt10.false c.if-tenth-lt10.false c.ranges.v.fits)
     (both out at (decimal (v / 10 / 10) ++ ((48 + v / 10 % 10) ∷ [])) ((48 + v % 10) ∷ [])
-    (both out at (decimal (v / 10 / 10)) ((48 + v / 10 % 10) ∷ []) c.put_decimal-to.ensures c.put-last.ensures)
-    c.put-2.ensures)
+    (both out at (decimal (v / 10 / 10)) ((48 + v / 10 % 10) ∷ []) c.put_decimal-to.ensures (rw c.digit-2.ensures at c.put-last.ensures))
+    (rw c.digit-3.ensures at c.put-2.ensures))

@@ -1,5 +1,5 @@
 -- What is listed of a mended frame, in frame order: the fields whose values changed. Three numbers to a change: name, old value, new value.
-use Rattle.std.specs.Prelude.{ℕ, ◌-◌, ◌*◌, ◌<◌, cond, List, [], ◌∷◌, ◌++◌, eqb, ℤ, pos}
+use Rattle.std.specs.Prelude.{ℕ, ◌-◌, ◌*◌, cond, List, [], ◌∷◌, ◌++◌, eqb, ℤ, pos}
 use Rattle.bits.specs.Bits.{value}
 use Rattle.syntax.specs.Names as Name
 use Rattle.mend.specs.Mend.{after_mend}
@@ -28,10 +28,3 @@ changes_of name old new =
 -- of the frame that `after_mend` leaves
 unfoldable pub changes : (name words : ℕ) → List ℕ → (at n v : ℕ) → List ℤ
 changes name words s at n v = changes_of name (fields_of words s at n) (fields_of words (after_mend words s at n v) at n)
-
--- values of at most 16 bits
-pub record Small (f : Fields) : Type 0 where
-  pub crc1 : f.crc1 < 65536
-  pub field : f.field < 65536
-  pub crcrsv : f.crcrsv < 65536
-  pub crc2 : f.crc2 < 65536

@@ -1,27 +1,23 @@
 -- The list of changes, one after the other; where nothing changed it is empty. Assumes nothing.
-use Prim.Native.Nat.{ℕ, suc, ◌+◌, ◌*◌, ◌≤◌}
+use Prim.Native.Nat.{ℕ, ◌+◌, ◌*◌, ◌≤◌}
 use mathlib.Core.Bool.{Bool, true, false, cond}
 use mathlib.Core.List.{List, [], ◌∷◌, ◌++◌}
 use mathlib.Core.Path.{◌≡◌, refl, ap, sym, ◌∙◌}
-use native.Mathlib.Nat.{add-zero, add-suc, suc-add}
 use native.Mathlib.Omega.{arith}
 use borrow.Author.Tests.{eq-eqb}
 use lib.Dec.{eqb}
 use lib.IntN.{ℤ, pos}
-use lib.ListN.{length, set, length-append}
+use lib.ListN.{length, length-append}
 use lib.Seq.{sets}
+use Rattle.naturals.proofs.Stored.{sets_append}
 use Rattle.syntax.specs.Names as Name
 use Rattle.mend.specs.Mend.{after_mend}
 use Rattle.mend.specs.declared.Fields.{Fields}
 use Rattle.mend.specs.Changes.{crcrsv, crc2, fields_of, changed, changes_of, changes}
 
-sets_append : {A : Type 0} (l : List A) (i : ℕ) (xs ys : List A) → sets (sets l i xs) (i + length xs) ys ≡ sets l i (xs ++ ys)
-sets_append l i [] ys = rw add-zero
-sets_append l i (x ∷ xs) ys = rw (add-suc, ← suc-add) (sets_append (set l i x) (suc i) xs ys)
-
 -- one list after another
 then : {A : Type 0} (l : List A) (xs ys : List A) (to : ℕ) → to ≡ length xs → sets (sets l 0 xs) to ys ≡ sets l 0 (xs ++ ys)
-then l xs ys to e = ap (λ k. sets (sets l 0 xs) k ys) (e ∙ omega arith) ∙ sets_append l 0 xs ys
+then l xs ys to e = sym (sets_append xs ys l 0 to (omega (arith, e)))
 
 same : (name x : ℕ) → changed name x x ≡ []
 unfolding changed

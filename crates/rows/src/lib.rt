@@ -15,14 +15,11 @@ const VALUE: usize = 7;
 pub fn first(rows: &[i32], count: usize, name: u8) -> usize
     ensures { result ≡ first count name rows.now }
 {
-    let n = naturals::least(count, rows.len() / ROW);
-    let wanted = name as i32;
-    let mut i = 0;
-    while i < n {
+    let wanted = i32::from(name);
+    for i in 0..count.min(rows.len() / ROW) {
         if rows[i * ROW] == wanted {
             return i;
         }
-        i += 1;
     }
     count
 }
@@ -39,5 +36,5 @@ pub fn value(rows: &[i32], count: usize, name: u8) -> i32
 pub fn natural(z: i32) -> usize
     ensures { result ≡ natural z }
 {
-    if z < 0 { 0 } else { z as usize }
+    z.max(0) as usize
 }

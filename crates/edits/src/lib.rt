@@ -70,14 +70,7 @@ fn editable_names() -> [u8; EDITABLE]
 fn among(name: usize, names: &[u8]) -> bool
     ensures { result ≡ among name names.now }
 {
-    let mut i = 0;
-    while i < names.len() {
-        if names[i] as usize == name {
-            return true;
-        }
-        i += 1;
-    }
-    false
+    names.iter().any(|&other| name == usize::from(other))
 }
 
 // Whether new values in the fields of this name change nothing but themselves.

@@ -130,7 +130,7 @@ fn field_at(rows: &[i32], i: usize) -> Field
 fn fitting(numbers: usize, count: usize, room: usize) -> usize
     ensures { result ≡ fitting numbers count room }
 {
-    naturals::least(naturals::least(count, numbers / ROW), room)
+    count.min(numbers / ROW).min(room)
 }
 
 // Room for as many rows as a frame can have. (Whoever calls it knows the array by what it ensures, and need not compute with it.)
@@ -144,7 +144,7 @@ fn no_rows() -> [i32; NUMBERS]
 fn parse_within(n: usize, capture: &[u8], place: usize, rows: &mut [i32]) -> Answer
     ensures { (result, rows.new) ≡ answer_within (min n (length rows.old / row_width)) capture.now place rows.old }
 {
-    let room = naturals::least(n, rows.len() / ROW);
+    let room = n.min(rows.len() / ROW);
     ac3::parse(capture, place, &mut rows[..room * ROW])
 }
 
@@ -154,15 +154,7 @@ fn put_row(rows: &mut [i32], i: usize, row: [i32; ROW])
     ensures { rows.new ≡ sets rows.old (i * row_width) (row_at row 0) }
 {
     let at = i * ROW;
-    rows[at] = row[0];
-    rows[at + 1] = row[1];
-    rows[at + 2] = row[2];
-    rows[at + 3] = row[3];
-    rows[at + 4] = row[4];
-    rows[at + 5] = row[5];
-    rows[at + 6] = row[6];
-    rows[at + 7] = row[7];
-    rows[at + 8] = row[8];
+    rows[at..at + ROW].copy_from_slice(&row);
 }
 
 // As many records as a frame can have rows, all of a row of zeros.
@@ -180,10 +172,8 @@ fn fill(rows: &[i32], count: usize, fields: &mut [Field])
     requires { (count * row_width ≤ length rows.now) × (count ≤ length fields.old) }
     ensures { fields.new ≡ filled (field_at rows.now) count fields.old }
 {
-    let mut i = 0;
-    while i < count {
+    for i in 0..count {
         fields[i] = field_at(rows, i);
-        i += 1;
     }
 }
 
@@ -201,11 +191,8 @@ pub fn rows_of(fields: &[Field], count: usize, rows: &mut [i32]) -> usize
     ensures { (result, rows.new) ≡ rows_written fields.now count rows.old }
 {
     let n = fitting(rows.len(), count, fields.len());
-    let mut i = 0;
-    while i < n {
-        let row = row_of(fields[i]);
-        put_row(rows, i, row);
-        i += 1;
+    for i in 0..n {
+        put_row(rows, i, row_of(fields[i]));
     }
     n
 }

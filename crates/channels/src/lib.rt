@@ -8,15 +8,6 @@ pub mod ends;
 pub mod rematrixing;
 pub mod strategies;
 
-use syntax::Cursor;
-
-// A flag for each channel, and where reading stands then.
-#[derive(Drop)]
-pub struct ChannelFlags {
-    pub set: [bool; 5],
-    pub cursor: Cursor,
-}
-
 // The bandwidths in force: a channel's code counts once it was sent.
 #[derive(Clone, Copy)]
 pub struct Bandwidths {

@@ -4,46 +4,35 @@ ghost use Rattle.syntax.specs.Reads.{Reads};
 ghost use Rattle.channels.specs.Coupling as grammar;
 
 use slots::Coupling;
-use syntax::Cursor;
-use syntax::elements::{announced, flags};
 use syntax::names::*;
-use syntax::refusals::NO_REMATRIXING;
+use syntax::{Reader, Refusal};
 
 fn rematrix_bands(c: Coupling) -> u8
     ensures { result ≡ grammar.rematrix_bands c }
 {
-    if c.cplinu {
-        if 2 < c.cplbegf {
-            4
-        } else if 0 < c.cplbegf {
-            3
-        } else {
-            2
-        }
-    } else {
-        4
+    if !c.cplinu {
+        return 4;
+    }
+    match c.cplbegf {
+        0 => 2,
+        1 | 2 => 3,
+        _ => 4,
     }
 }
 
 pub fn rematrixing(
-    s: &[u8],
-    rows: &mut [i32],
-    c: Cursor,
+    r: &mut Reader<'_>,
     blk: u8,
     acmod: u8,
     coupling: Coupling,
-) -> Cursor
-    ensures { Reads (grammar.rematrixing blk acmod coupling) s.now c rows.old tt result rows.new }
+) -> Result<(), Refusal>
+    ensures { Reads (grammar.rematrixing blk acmod coupling) r.old result r.new }
 {
     if acmod == 2 {
-        let rematstr = announced(s, rows, c, blk, REMATSTR, NO_REMATRIXING);
-        let cursor = rematstr.cursor;
-        if rematstr.set {
-            flags(s, rows, cursor, blk, REMATFLG, rematrix_bands(coupling))
-        } else {
-            cursor
+        let rematstr = r.announced(blk, REMATSTR, Refusal::NoRematrixing)?;
+        if rematstr {
+            r.flags(blk, REMATFLG, rematrix_bands(coupling))?;
         }
-    } else {
-        c
     }
+    Ok(())
 }

@@ -1,7 +1,7 @@
 // Delta bit allocation (4.3.3, 4.4.3.47): for each slot up to eight segments, kept from block to block.
 ghost use Rattle.std.specs.Prelude.{◌≡◌, [], ◌∷◌, ◌*◌, ◌<◌, ◌≤◌, replicate, IfOk};
 ghost use Rattle.std.proofs.lemmas.List.Edits.{sets};
-ghost use Rattle.syntax.specs.Grammar.{one, read_if, for};
+ghost use Rattle.syntax.specs.Grammar.{one, part_of, read_if, for};
 ghost use Rattle.syntax.specs.Names as Name;
 ghost use Rattle.syntax.specs.Reads.{Reads};
 ghost use Rattle.slots.specs.Slots as slots;
@@ -11,7 +11,7 @@ ghost use Rattle.slots.specs.Sound.{SoundCodes, SoundSegments, SoundDeltas};
 use slots::{CPL, Deltas, NO_DELTAS};
 use syntax::items::{nth, one, part_of};
 use syntax::readers::refuse_if;
-use syntax::{Item, Reader, Refusal, names};
+use syntax::{Item, NONE, Reader, Refusal, names};
 
 // ---- codes
 
@@ -74,26 +74,15 @@ fn channel_codes(r: &mut Reader<'_>, blk: u8, nfchans: u8, coded: Coded) -> Resu
 
 // ---- segments
 
-// A name that coupling and the channels have each of their own.
-fn delta_name(slot: u8, coupling: u8, channel: u8) -> u8
-    ensures { result ≡ grammar.delta_name slot coupling channel }
+// An element of a slot's segments: coupling and the channels have each a name of their own for it.
+fn of_slot(blk: u8, slot: u8, coupling: u8, channel: u8, part: u8) -> Item
+    ensures { result ≡ part_of blk (grammar.delta_name slot coupling channel) slot part }
 {
-    if slot == CPL { coupling } else { channel }
-}
-
-// The segments of a slot, with one more.
-fn with_segment(segments: [u8; 24], seg: usize, offset: u32, len: u32, code: u32) -> [u8; 24]
-    requires seg_bound { (seg < 8) × SoundCodes segments }
-    requires offset_bound { (offset < 32) × ((len < 16) × (code < 8)) }
-    ensures value { result ≡ sets segments (seg * 3) (offset ∷ len ∷ code ∷ []) }
-    ensures sound_codes { SoundCodes result }
-{
-    let at = seg * 3;
-    let mut next = segments;
-    next[at] = offset as u8;
-    next[at + 1] = len as u8;
-    next[at + 2] = code as u8;
-    next
+    if slot == CPL {
+        part_of(blk, coupling, slot, part)
+    } else {
+        part_of(blk, channel, slot, part)
+    }
 }
 
 // A segment: the bands that it skips, its length and its code.
@@ -108,14 +97,19 @@ fn segment(
     ensures reads { Reads (grammar.segment blk slot seg segments) r.old result r.new }
     ensures sound_codes { IfOk result SoundCodes }
 {
-    let offset_name = delta_name(slot, names::CPLDELTOFFST, names::DELTOFFST);
-    let length_name = delta_name(slot, names::CPLDELTLEN, names::DELTLEN);
-    let code_name = delta_name(slot, names::CPLDELTBA, names::DELTBA);
     let part = seg as u8;
-    let deltoffst = r.take(part_of(blk, offset_name, slot, part), 5)?;
-    let deltlen = r.take(part_of(blk, length_name, slot, part), 4)?;
-    let deltba = r.take(part_of(blk, code_name, slot, part), 3)?;
-    Ok(with_segment(segments, seg, deltoffst, deltlen, deltba))
+    let offset = of_slot(blk, slot, names::CPLDELTOFFST, names::DELTOFFST, part);
+    let length = of_slot(blk, slot, names::CPLDELTLEN, names::DELTLEN, part);
+    let code = of_slot(blk, slot, names::CPLDELTBA, names::DELTBA, part);
+    let deltoffst = r.take(offset, 5)?;
+    let deltlen = r.take(length, 4)?;
+    let deltba = r.take(code, 3)?;
+    let at = seg * 3;
+    let mut next = segments;
+    next[at] = deltoffst as u8;
+    next[at + 1] = deltlen as u8;
+    next[at + 2] = deltba as u8;
+    Ok(next)
 }
 
 // All segments of a slot.
@@ -123,8 +117,8 @@ fn new_deltas(r: &mut Reader<'_>, blk: u8, slot: u8) -> Result<Deltas, Refusal>
     ensures reads { Reads (grammar.new_deltas blk slot) r.old result r.new }
     ensures sound_segments { IfOk result SoundSegments }
 {
-    let name = delta_name(slot, names::CPLDELTNSEG, names::DELTNSEG);
-    let deltnseg = r.take(nth(blk, name, slot), 3)?;
+    let number = of_slot(blk, slot, names::CPLDELTNSEG, names::DELTNSEG, NONE);
+    let deltnseg = r.take(number, 3)?;
     let count = deltnseg as usize + 1;
     let mut segments = [0u8; 24];
     for seg in 0..count {

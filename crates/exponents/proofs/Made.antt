@@ -1,50 +1,42 @@
--- One group: its number, and then what is made of it or why it is refused. Assumes nothing.
-use mathlib.Core.Bool.{Bool, true, false, cond}
-use mathlib.Core.List.{List}
-use mathlib.Core.Path.{◌≡◌}
-use Prim.Native.Nat.{ℕ, ◌+◌, ◌*◌, ◌<◌}
-use native.Mathlib.Omega.{arith}
-use lib.Dec.{ltb}
-use lib.IntN.{ℤ}
-use Rattle.syntax.specs.declared.Cursor.{Cursor}
+-- One group: its number, and then what is made of it or why it is refused; and what is beside a result that `?` hands on. Assumes nothing.
+use mathlib.Core.Path.{◌≡◌, refl}
+use Prim.Native.Nat.{ℕ, ◌+◌, ◌*◌}
+use Rattle.std.specs.Prelude.{Result, Ok, Err, IsErrAnd}
+use Rattle.std.proofs.lemmas.Result.{err_from_is_err_and}
+use Rattle.syntax.specs.declared.Reader.{Reader}
 use Rattle.syntax.specs.declared.Item.{Item}
 use Rattle.syntax.specs.declared.Refusal.{Refusal}
-use Rattle.syntax.specs.Grammar.{done, refuse, take, ◌>>=◌}
-use Rattle.syntax.specs.Reads.{Reads, Judged}
-use Rattle.syntax.specs.Refusals.{bad_group, bad_exponent}
-use Rattle.syntax.proofs.Sequence.{then, finished}
+use Rattle.syntax.specs.Grammar.{Grammar, refuse, take}
+use Rattle.syntax.specs.Place.{exec}
+use Rattle.syntax.specs.Reads.{Reads, with_lent}
+use Rattle.syntax.proofs.Sequence.{then, stops, finished, unchanged}
 use Rattle.exponents.specs.Exponents.{Unpacked, group}
-use Rattle.exponents.specs.Made.{fault, of_number}
+use Rattle.exponents.specs.Made.{of_number, answered}
 
--- a fault has a number
-pub fault_told : (number : ℕ) → 0 < (fault number).number
-fault_told number = go (ltb 124 number)
-  where
-    go : (b : Bool) → 0 < (cond b bad_group bad_exponent).number
-    go true = omega arith
-    go false = omega arith
+-- what `?` hands on is the refusal that it was given, whatever is lent
+module _ {A B : Type 0} (f : A → B) (r : Result A Refusal) {x : Refusal} (is : IsErrAnd r (λ y. y ≡ x)) where
+  pub refused_beside : {g : Grammar B} {c d : Reader} → Reads g c (Err x) d → Reads g c (with_lent f r) d
+  refused_beside q = let p = err_from_is_err_and r is in rw (p.1, p.2) q
 
-pub fault_stops : (number : ℕ) → (fault number).number ≡ 0 → ⊥
-fault_stops number = go (ltb 124 number)
-  where
-    go : (b : Bool) → (cond b bad_group bad_exponent).number ≡ 0 → ⊥
-    go true e = omega arith
-    go false e = omega arith
+  pub refused_as : {g : Grammar B} → g ≡ refuse x → g ≡ answered (with_lent f r)
+  refused_as e = let p = err_from_is_err_and r is in rw (p.1, p.2) e
 
--- a judge refuses where it is bad, and else leaves the answer
-or_made : {A : Type 0} {a : A} {x : Refusal} {s : List ℕ} {c d : Cursor} {room : List ℤ} (bad : Bool)
-    → Judged bad x c d → Reads (cond bad (refuse x) (done a)) s c room a d room
-unfolding ◌>>=◌
-or_made {a = a} {s = s} {room = room} true j = then (λ _. done a) (j.reads s room) finished
-or_made {a = a} {s = s} {room = room} false j = then (λ _. done a) (j.reads s room) finished
+-- what reads nothing comes to its result
+comes_to : {A : Type 0} {c : Reader} (r : Result A Refusal) → Reads (answered r) c r c
+unfolding exec
+comes_to (Ok a) = finished
+comes_to (Err x) = record { same = refl; on = unchanged }
 
-pub of_group : (item : ℕ → Item) (bins first n : ℕ) (u : Unpacked) {at number : ℕ} {made : Unpacked} {bad : Bool} {s : List ℕ} {c d e : Cursor} {before after : List ℤ}
-    → at ≡ first + n * (3 * bins)
-    → Reads (take (item n) 7) s c before number d after
-    → of_number bins at u number ≡ cond bad (refuse (fault number)) (done made)
-    → Judged bad (fault number) d e
-    → Reads (group item bins first n u) s c before made e after
-unfolding group
-of_group item bins first n u {at} {number} {made} {bad} {s} {c} {d} {e} {before} {after} bin read is j =
-    let rest : Reads (of_number bins at u number) s d after made e after = rw is (or_made bad j) in
-    then _ read (rw bin at rest)
+module _ (item : ℕ → Item) (bins first n : ℕ) (u : Unpacked) {c d : Reader} where
+  -- a group whose number was read
+  pub of_group : {at number : ℕ} {r : Result Unpacked Refusal} → at ≡ first + n * (3 * bins)
+      → Reads (take (item n) 7) c (Ok number) d → of_number bins at u number ≡ answered r → Reads (group item bins first n u) c r d
+  unfolding group
+  of_group {at} {number} {r} bin read is =
+      let rest : Reads (of_number bins at u number) d r d = rw is (comes_to r) in
+      then _ read (rw bin at rest)
+
+  -- or was not
+  pub no_group : {x : Refusal} → Reads (take (item n) 7) c (Err x) d → Reads (group item bins first n u) c (Err x) d
+  unfolding group
+  no_group read = stops _ read

@@ -1,19 +1,17 @@
 // The groups of a set (6.1.3): each has three exponents, and each of these stands for 1, 2 or 4 bins.
-ghost use Rattle.std.specs.Prelude.{◌≡◌, cond, ◌+◌, ◌*◌, ◌<◌, ◌≤◌, pos, replicate};
+ghost use Rattle.std.specs.Prelude.{◌≡◌, ◌+◌, ◌*◌, ◌<◌, ◌≤◌, pos, replicate, IfOk};
 ghost use Rattle.std.proofs.lemmas.List.Edits.{sets};
-ghost use Rattle.syntax.specs.Grammar.{for, part_of, done, refuse};
-ghost use Rattle.syntax.specs.Reads.{Reads};
+ghost use Rattle.syntax.specs.Grammar.{for, part_of};
+ghost use Rattle.syntax.specs.Reads.{Reads, with_lent};
 ghost use Rattle.slots.specs.Sound.{SoundRow};
 ghost use Rattle.exponents.specs.Exponents as grammar;
 ghost use Rattle.exponents.specs.Bytes.{Steps};
 ghost use Rattle.exponents.specs.Made as made;
-ghost use Rattle.exponents.specs.Sound.{SoundUnpacked};
+ghost use Rattle.exponents.specs.Sound.{SoundUnpacked, SoundGrouping};
 
-use crate::unpack::{Three, fault, steps, unpack};
-use syntax::Cursor;
-use syntax::cursors::refuse_if;
+use crate::unpack::{steps, unpack};
 use syntax::items::part_of;
-use syntax::readers::take;
+use syntax::{Reader, Refusal};
 
 // The bins that an exponent stands for.
 pub(crate) fn bins_each(strategy: u8) -> usize
@@ -46,20 +44,20 @@ fn repeat(row: &mut [i16; 256], at: usize, strategy: u8, exponent: u32)
 }
 
 // Three exponents, one after the other.
-fn spread(row: &mut [i16; 256], at: usize, strategy: u8, three: Three)
+fn spread(row: &mut [i16; 256], at: usize, strategy: u8, three: (u32, u32, u32))
     requires strategy_bound { (strategy < 4) × (at + 3 * grammar.bins_each strategy ≤ 256) }
-    requires x_bound { (three.x < 25) × ((three.y < 25) × (three.z < 25)) }
+    requires three_bound { (three.0 < 25) × ((three.1 < 25) × (three.2 < 25)) }
     requires sound_row { SoundRow row.old }
-    ensures row_after { row.new ≡ sets row.old at (grammar.spread (grammar.bins_each strategy) three.x three.y three.z) }
+    ensures row_after { row.new ≡ sets row.old at (grammar.spread (grammar.bins_each strategy) three.0 three.1 three.2) }
     ensures sound_row_2 { SoundRow row.new }
 {
     let bins = bins_each(strategy);
-    repeat(row, at, strategy, three.x);
-    repeat(row, at + bins, strategy, three.y);
-    repeat(row, at + bins + bins, strategy, three.z);
+    repeat(row, at, strategy, three.0);
+    repeat(row, at + bins, strategy, three.1);
+    repeat(row, at + bins + bins, strategy, three.2);
 }
 
-// The groups of a set: the block, name and index that they are recorded with, their strategy, and the first bin.
+// The groups of a set: the block, name and index that they are recorded with, their strategy, the first bin, and how many they are.
 #[derive(Clone, Copy)]
 pub(crate) struct Grouping {
     pub(crate) blk: u8,
@@ -67,16 +65,10 @@ pub(crate) struct Grouping {
     pub(crate) index: u8,
     pub(crate) strategy: u8,
     pub(crate) first: usize,
+    pub(crate) count: usize,
 }
 
-// The last exponent that a group made, or whether the group is bad.
-#[derive(Drop)]
-pub(crate) struct Made {
-    pub(crate) last: u32,
-    pub(crate) bad: bool,
-}
-
-// The exponents of a group, into the row from bin `at` on.
+// The exponents of a group, into the row from bin `at` on; the answer is the last of them.
 pub(crate) fn unpack_group(
     row: &mut [i16; 256],
     steps: &[u32; 128],
@@ -84,70 +76,41 @@ pub(crate) fn unpack_group(
     at: usize,
     last: u32,
     group: u32,
-) -> Made
+) -> Result<u32, Refusal>
     requires strategy_bound { (strategy < 4) × (group < 128) }
     requires strategy_bound_2 { at + 3 * grammar.bins_each strategy ≤ 256 }
     requires sound_unpacked { SoundUnpacked (record { last = last; row = row.old }) }
     requires steps { Steps steps.now }
     ensures group_value { made.of_number (grammar.bins_each strategy) at (record { last = last; row = row.old }) group
-        ≡ cond result.bad (refuse (made.fault group)) (done (record { last = result.last; row = row.new })) }
-    ensures sound_unpacked_2 { SoundUnpacked (record { last = result.last; row = row.new }) }
+        ≡ made.answered (with_lent (λ made. record { last = made; row = row.new }) result) }
+    ensures sound_row { SoundRow row.new }
+    ensures last_bound { IfOk result (λ made. made < 32) }
 {
-    let three = unpack(steps, last, group);
-    if three.bad {
-        return Made { last: 0, bad: true };
-    }
+    let three = unpack(steps, last, group)?;
     spread(row, at, strategy, three);
-    Made {
-        last: three.z,
-        bad: false,
-    }
+    Ok(three.2)
 }
 
-// The last exponent that was made, and where reading stands.
-#[derive(Drop)]
-pub(crate) struct GroupRead {
-    pub(crate) last: u32,
-    pub(crate) cursor: Cursor,
-}
-
-// All groups of a set, each with its tests.
+// All groups of a set, each with its tests; the answer is the last exponent.
 pub(crate) fn groups(
-    s: &[u8],
-    rows: &mut [i32],
-    c: Cursor,
+    r: &mut Reader<'_>,
     row: &mut [i16; 256],
     set: Grouping,
-    count: usize,
     last: u32,
-) -> GroupRead
-    requires strategy_bound { set.strategy < 4 }
-    requires strategy_bound_2 { set.first + count * (3 * grammar.bins_each set.strategy) ≤ 256 }
+) -> Result<u32, Refusal>
+    requires grouping { SoundGrouping set }
     requires sound_unpacked { SoundUnpacked (record { last = last; row = row.old }) }
-    ensures reads { Reads (for 0 count (record { last = last; row = row.old }) (grammar.group (part_of set.blk set.name set.index) (grammar.bins_each set.strategy) set.first)) s.now c rows.old
-        (record { last = result.last; row = row.new }) result.cursor rows.new }
-    ensures sound_unpacked_2 { SoundUnpacked (record { last = result.last; row = row.new }) }
+    ensures reads { Reads (for 0 set.count (record { last = last; row = row.old }) (grammar.group (part_of set.blk set.name set.index) (grammar.bins_each set.strategy) set.first))
+        r.old (with_lent (λ made. record { last = made; row = row.new }) result) r.new }
+    ensures sound_row { SoundRow row.new }
 {
     let steps = steps();
     let width = 3 * bins_each(set.strategy);
     let mut exponent = last;
-    let mut cursor = c;
-    for n in 0..count {
-        let item = part_of(set.blk, set.name, set.index, n as u8);
-        let grouped = take(s, rows, cursor, item, 7);
+    for n in 0..set.count {
+        let group = r.take(part_of(set.blk, set.name, set.index, n as u8), 7)?;
         let at = set.first + n * width;
-        let made = unpack_group(row, &steps, set.strategy, at, exponent, grouped.value);
-        exponent = made.last;
-        cursor = refuse_if(grouped.cursor, made.bad, fault(grouped.value));
-        if cursor.stop.number != 0 {
-            return GroupRead {
-                last: exponent,
-                cursor,
-            };
-        }
+        exponent = unpack_group(row, &steps, set.strategy, at, exponent, group)?;
     }
-    GroupRead {
-        last: exponent,
-        cursor,
-    }
+    Ok(exponent)
 }

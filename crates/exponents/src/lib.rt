@@ -9,7 +9,7 @@ mod sets;
 mod unpack;
 
 ghost use Rattle.std.specs.Prelude.{◌≤◌};
-ghost use Rattle.syntax.specs.Reads.{Reads};
+ghost use Rattle.syntax.specs.Reads.{Reads, with_lent};
 ghost use Rattle.slots.specs.Sound.{SoundExps, SoundCoupling, SoundStrategies, SoundEnds};
 ghost use Rattle.exponents.specs.Exponents as grammar;
 ghost use Rattle.slots.specs.Reused.{Keeps, ReusedBy};
@@ -17,8 +17,7 @@ ghost use Rattle.slots.specs.Reused.{Keeps, ReusedBy};
 use crate::by_slot::{channel_exponents, slot_exponents_if};
 use crate::sets::Set;
 use slots::{CPL, Coupling, Cover, LFE, Strategies, first_coupled, past_coupled};
-use syntax::Cursor;
-use syntax::refusals::{NO_COUPLING_EXPONENTS, NO_LFE_EXPONENTS};
+use syntax::{Reader, Refusal};
 
 // What says which sets a block has: its number, the channels and LFE of the frame, coupling and the strategies, and the channels' ends.
 #[derive(Clone, Copy)]
@@ -31,72 +30,46 @@ pub struct Layout {
     pub ends: [usize; 5],
 }
 
-// The bins that the exponents in force cover, and where reading stands. The exponents themselves are lent.
-#[derive(Drop)]
-pub struct ExponentsRead {
-    pub cover: Cover,
-    pub cursor: Cursor,
-}
-
-// The exponents of a block: coupling, the channels, LFE. Those in force are lent; their cover goes in by value and comes back. A slot whose
-// strategy is 0 keeps its exponents, also where reading stops: what was made of them stays true.
+// The exponents of a block: coupling, the channels, LFE. Those in force are lent; the bins that they cover go in by value and come back. A slot
+// whose strategy is 0 keeps its exponents, also where reading stops: what was made of them stays true.
 pub fn exponents(
-    s: &[u8],
-    rows: &mut [i32],
-    c: Cursor,
+    r: &mut Reader<'_>,
     exps: &mut [[i16; 256]; 7],
     layout: Layout,
     cover: Cover,
-) -> ExponentsRead
+) -> Result<Cover, Refusal>
     requires nfchans_bound { layout.nfchans ≤ 5 }
     requires sound_coupling { SoundCoupling layout.coupling × (SoundStrategies layout.strategies × SoundEnds layout.ends) }
     requires sound_exps { SoundExps exps.old }
-    ensures reads { Reads (grammar.exponents layout.blk layout.nfchans layout.lfeon layout.coupling layout.strategies layout.ends (record { cover = cover; exps = exps.old }))
-        s.now c rows.old (record { cover = result.cover; exps = exps.new }) result.cursor rows.new }
+    ensures reads { Reads (grammar.exponents layout.blk layout.nfchans layout.lfeon layout.coupling layout.strategies layout.ends (record { cover = cover; exps = exps.old })) r.old
+        (with_lent (λ covered. record { cover = covered; exps = exps.new }) result) r.new }
     ensures sound_exps_2 { SoundExps exps.new }
     ensures keeps { Keeps (ReusedBy layout.strategies) exps.old exps.new }
 {
-    let coupling = layout.coupling;
-    let strategies = layout.strategies;
     let coupled = Set {
         blk: layout.blk,
         slot: CPL,
-        strategy: strategies.cplexpstr,
-        start: first_coupled(coupling.cplbegf),
-        end: past_coupled(coupling.cplendf),
+        strategy: layout.strategies.cplexpstr,
+        start: first_coupled(layout.coupling.cplbegf),
+        end: past_coupled(layout.coupling.cplendf),
     };
-    let e = slot_exponents_if(
-        s,
-        rows,
-        c,
+    let mut covered = slot_exponents_if(
+        r,
         exps,
-        coupling.cplinu,
+        layout.coupling.cplinu,
         coupled,
-        NO_COUPLING_EXPONENTS,
+        Refusal::NoCouplingExponents,
         cover,
-    );
-    let mut covered = e.cover;
-    let mut cursor = e.cursor;
+    )?;
     for ch in 0..layout.nfchans {
-        let next = channel_exponents(s, rows, cursor, exps, layout, ch, covered);
-        covered = next.cover;
-        cursor = next.cursor;
+        covered = channel_exponents(r, exps, layout, ch, covered)?;
     }
     let lfe = Set {
         blk: layout.blk,
         slot: LFE,
-        strategy: strategies.lfeexpstr,
+        strategy: layout.strategies.lfeexpstr,
         start: 0,
         end: 7,
     };
-    slot_exponents_if(
-        s,
-        rows,
-        cursor,
-        exps,
-        layout.lfeon,
-        lfe,
-        NO_LFE_EXPONENTS,
-        covered,
-    )
+    slot_exponents_if(r, exps, layout.lfeon, lfe, Refusal::NoLfeExponents, covered)
 }

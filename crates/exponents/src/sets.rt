@@ -1,18 +1,16 @@
 // One set of exponents (4.3.3, 6.1.3): a first exponent, and then groups of differences.
-ghost use Rattle.std.specs.Prelude.{◌≡◌, cond, ◌+◌, ◌-◌, ◌*◌, ◌<◌, ◌≤◌, eqb};
+ghost use Rattle.std.specs.Prelude.{◌≡◌, ◌*◌, ◌<◌};
 ghost use Rattle.syntax.specs.Grammar.{for, part_of};
-ghost use Rattle.syntax.specs.Reads.{Reads};
-ghost use Rattle.slots.specs.Slots as slots;
+ghost use Rattle.syntax.specs.Reads.{Reads, with_lent};
 ghost use Rattle.slots.specs.Sound.{SoundRow};
 ghost use Rattle.exponents.specs.Exponents as grammar;
-ghost use Rattle.exponents.specs.Sound.{SoundUnpacked};
+ghost use Rattle.exponents.specs.Sound.{SoundUnpacked, SoundGrouping};
 
 use crate::at_hand::{all_at_hand, groups_at_hand};
-use crate::groups::{GroupRead, Grouping, bins_each, groups};
+use crate::groups::{Grouping, bins_each, groups};
 use slots::{CPL, LFE};
 use syntax::items::nth;
-use syntax::readers::take;
-use syntax::{Cursor, names};
+use syntax::{Reader, Refusal, names};
 
 // A set: in which block, of which slot, by which strategy, from bin `start` up to, not including, `end`.
 #[derive(Clone, Copy)]
@@ -38,22 +36,16 @@ fn first_exponent(row: &mut [i16; 256], slot: u8, absexp: u32) -> u32
     absexp
 }
 
-// A name that coupling, LFE and the channels have each of their own.
-fn name_of(slot: u8, coupling: u8, lfe: u8, channel: u8) -> u8
-    ensures { result ≡ cond (eqb slot slots.CPL) coupling (cond (eqb slot slots.LFE) lfe channel) }
+// The names of a slot's first exponent and of its groups, and their index.
+fn names_of(slot: u8) -> (u8, u8, u8)
+    requires { slot < 7 }
+    ensures { result ≡ (grammar.first_name slot, grammar.group_name slot, grammar.exponent_index slot) }
 {
     match slot {
-        CPL => coupling,
-        LFE => lfe,
-        _ => channel,
+        CPL => (names::CPLABSEXP, names::CPLEXPS, 0),
+        LFE => (names::LFEABSEXP, names::LFEEXPS, 0),
+        _ => (names::ABSEXP, names::EXPS, slot),
     }
-}
-
-// The index of a slot's exponents: coupling and LFE have 0.
-fn exponent_index(slot: u8) -> u8
-    ensures { result ≡ grammar.exponent_index slot }
-{
-    if slot < CPL { slot } else { 0 }
 }
 
 // The first bin of the groups: a channel's bin 0 has the first exponent.
@@ -63,74 +55,60 @@ fn first_grouped(slot: u8, start: usize) -> usize
     if slot == CPL { start } else { 1 }
 }
 
-// The difference, and 0 where it would be negative: after refusal 9 the coupling range may end before it starts.
-fn less(a: usize, b: usize) -> usize
-    ensures { result ≡ a - b }
-{
-    if a < b { 0 } else { a - b }
-}
-
-// The groups of a set: as many as its bins need.
+// The groups of a set: as many as its bins need. (After a bad coupling range a set may end before it starts: then it has none.)
 fn group_count(set: Set) -> usize
     requires { (set.strategy < 4) × (set.end < 254) }
     ensures { result ≡ grammar.group_count set.slot set.strategy set.start set.end }
 {
-    let slot = set.slot;
     let bins = 3 * bins_each(set.strategy);
-    match slot {
-        CPL => less(set.end, set.start) / bins,
+    match set.slot {
+        CPL => set.end.saturating_sub(set.start) / bins,
         LFE => 2,
-        _ => (less(set.end, 1) + bins - 3) / bins,
+        _ => (set.end.saturating_sub(1) + bins - 3) / bins,
     }
 }
 
-// All groups of a set: each is tested by itself only where they are not all at hand.
+// All groups of a set: each is tested by itself only where they are not all at hand. The answer is the last exponent.
 fn all_groups(
-    s: &[u8],
-    rows: &mut [i32],
-    c: Cursor,
+    r: &mut Reader<'_>,
     row: &mut [i16; 256],
     set: Grouping,
-    count: usize,
     last: u32,
-) -> GroupRead
-    requires strategy_bound { set.strategy < 4 }
-    requires strategy_bound_2 { set.first + count * (3 * grammar.bins_each set.strategy) ≤ 256 }
+) -> Result<u32, Refusal>
+    requires grouping { SoundGrouping set }
     requires sound_unpacked { SoundUnpacked (record { last = last; row = row.old }) }
-    ensures reads { Reads (for 0 count (record { last = last; row = row.old }) (grammar.group (part_of set.blk set.name set.index) (grammar.bins_each set.strategy) set.first)) s.now c rows.old
-        (record { last = result.last; row = row.new }) result.cursor rows.new }
-    ensures sound_unpacked_2 { SoundUnpacked (record { last = result.last; row = row.new }) }
+    ensures reads { Reads (for 0 set.count (record { last = last; row = row.old }) (grammar.group (part_of set.blk set.name set.index) (grammar.bins_each set.strategy) set.first))
+        r.old (with_lent (λ made. record { last = made; row = row.new }) result) r.new }
+    ensures sound_row { SoundRow row.new }
 {
-    if all_at_hand(s, &*rows, c, count) {
-        return groups_at_hand(s, rows, c, row, set, count, last);
+    if all_at_hand(&*r, set.count) {
+        return groups_at_hand(r, row, set, last);
     }
-    groups(s, rows, c, row, set, count, last)
+    groups(r, row, set, last)
 }
 
 // The exponents of a set, into a row that holds no others then.
 pub(crate) fn exponent_set(
-    s: &[u8],
-    rows: &mut [i32],
-    c: Cursor,
+    r: &mut Reader<'_>,
     row: &mut [i16; 256],
     set: Set,
-) -> Cursor
-    requires { (set.strategy < 4) × ((set.start < 254) × (set.end < 254)) }
-    ensures reads { Reads (grammar.exponent_set set.blk set.slot set.strategy set.start set.end) s.now c rows.old row.new result rows.new }
-    ensures sound_row { SoundRow row.new }
+) -> Result<(), Refusal>
+    requires strategy_bound { (set.slot < 7) × ((set.strategy < 4) × ((set.start < 254) × (set.end < 254))) }
+    requires sound_row { SoundRow row.old }
+    ensures reads { Reads (grammar.exponent_set set.blk set.slot set.strategy set.start set.end) r.old (with_lent (λ _. row.new) result) r.new }
+    ensures sound_row_2 { SoundRow row.new }
 {
-    let index = exponent_index(set.slot);
-    let name = name_of(set.slot, names::CPLABSEXP, names::LFEABSEXP, names::ABSEXP);
-    let absexp = take(s, rows, c, nth(set.blk, name, index), 4);
-    let last = first_exponent(row, set.slot, absexp.value);
-    let count = group_count(set);
-    let grouped = Grouping {
+    let (first_name, group_name, index) = names_of(set.slot);
+    let absexp = r.take(nth(set.blk, first_name, index), 4)?;
+    let last = first_exponent(row, set.slot, absexp);
+    let grouping = Grouping {
         blk: set.blk,
-        name: name_of(set.slot, names::CPLEXPS, names::LFEEXPS, names::EXPS),
+        name: group_name,
         index,
         strategy: set.strategy,
         first: first_grouped(set.slot, set.start),
+        count: group_count(set),
     };
-    let unpacked = all_groups(s, rows, absexp.cursor, row, grouped, count, last);
-    unpacked.cursor
+    all_groups(r, row, grouping, last)?;
+    Ok(())
 }

@@ -1,13 +1,11 @@
 // The three exponents of a group (6.1.3), from its number and the exponent before it. They are made, and judged, as one number with a byte
 // for each.
-ghost use Rattle.std.specs.Prelude.{◌≡◌, false, cond, ◌<◌};
-ghost use Rattle.syntax.specs.Grammar.{done, refuse};
+ghost use Rattle.std.specs.Prelude.{◌≡◌, false, ◌<◌, IfOk};
 ghost use Rattle.exponents.specs.Exponents as grammar;
 ghost use Rattle.exponents.specs.Bytes.{Steps, Unmarked, NearThree, ThreeInside};
 ghost use Rattle.exponents.specs.Made as made;
 
 use syntax::Refusal;
-use syntax::refusals::{BAD_EXPONENT, BAD_GROUP};
 
 // The same number in each of three bytes.
 const EACH: u32 = 0x010101;
@@ -46,16 +44,7 @@ pub(crate) fn steps() -> [u32; 128]
 fn is_marked(three: u32) -> bool
     ensures { (result ≡ false → Unmarked three) × (Unmarked three → result ≡ false) }
 {
-    if three / 32 % 2 != 0 {
-        return true;
-    }
-    if three / 8192 % 2 != 0 {
-        return true;
-    }
-    if three / 2097152 % 2 != 0 {
-        return true;
-    }
-    false
+    (three / 32 % 2 != 0) | (three / 8192 % 2 != 0) | (three / 2097152 % 2 != 0)
 }
 
 // Whether one of three exponents is outside 0 to 24: with its 64 it has the bit of 32, or has it when 7 more are added.
@@ -63,49 +52,31 @@ fn any_outside(three: u32) -> bool
     requires { NearThree three }
     ensures { (result ≡ false → ThreeInside three) × (ThreeInside three → result ≡ false) }
 {
-    if is_marked(three) {
-        return true;
-    }
-    is_marked(three + 7 * EACH)
+    is_marked(three) | is_marked(three + 7 * EACH)
 }
 
-// Why a group is refused: refusal 16 where it is none of the 125, refusal 17 where one of its three exponents is outside 0 to 24.
-pub(crate) fn fault(group: u32) -> Refusal
+// Why a group is refused: since it is none of the 125, or since one of its three exponents is outside 0 to 24.
+fn fault(group: u32) -> Refusal
     ensures { result ≡ made.fault group }
 {
-    if 124 < group { BAD_GROUP } else { BAD_EXPONENT }
+    if 124 < group {
+        Refusal::BadGroup
+    } else {
+        Refusal::BadExponent
+    }
 }
 
-// Three exponents, or whether they are bad.
-#[derive(Clone, Copy)]
-pub(crate) struct Three {
-    pub(crate) x: u32,
-    pub(crate) y: u32,
-    pub(crate) z: u32,
-    pub(crate) bad: bool,
-}
-
-// The exponents of a group.
-pub(crate) fn unpack(steps: &[u32; 128], last: u32, group: u32) -> Three
+// The three exponents of a group.
+pub(crate) fn unpack(steps: &[u32; 128], last: u32, group: u32) -> Result<(u32, u32, u32), Refusal>
     requires last_bound { (last < 32) × (group < 128) }
     requires steps { Steps steps.now }
-    ensures group_value { grammar.unpack last group ≡ cond result.bad (refuse (made.fault group)) (done (result.x, result.y, result.z)) }
-    ensures x_bound { (result.x < 25) × ((result.y < 25) × (result.z < 25)) }
+    ensures group_value { grammar.unpack last group ≡ made.answered result }
+    ensures bound { IfOk result (λ three. (three.0 < 25) × ((three.1 < 25) × (three.2 < 25))) }
 {
     let three = last * EACH + steps[group as usize];
     if any_outside(three) {
-        return Three {
-            x: 0,
-            y: 0,
-            z: 0,
-            bad: true,
-        };
+        return Err(fault(group));
     }
     let plain = three - 64 * EACH;
-    Three {
-        x: plain % 256,
-        y: plain / 256 % 256,
-        z: plain / 65536,
-        bad: false,
-    }
+    Ok((plain % 256, plain / 256 % 256, plain / 65536))
 }

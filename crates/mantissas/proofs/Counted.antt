@@ -10,6 +10,7 @@ use lib.Dec.{eqb}
 use lib.IntN.{ℤ}
 use lib.ListN.{length, get_or, replicate}
 use borrow.Author.Tests.{eqb-true, eqb-false}
+use mir.Val.{bool_byte}
 use Rattle.tables.specs.Tables.{bap, bap_bits, mantissa_bits}
 use Rattle.tables.proofs.Rules.{small_at}
 use Rattle.alloc.proofs.Laws.{allocation_length}
@@ -42,6 +43,10 @@ module _ (n : Counts) (bap : ℕ) where
       go false true z e f g = rw (eqb-true bap 2 f) (omega (arith, begun ((n.twos + 2) / 3) ((n.twos + 1 + 2) / 3) (n.twos % 3) 7 (λ h. omega arith) (λ h. omega arith)))
       go false false true e f g = rw (eqb-true bap 4 g) (omega (arith, begun ((n.fours + 1) / 2) ((n.fours + 1 + 1) / 2) (n.fours % 2) 7 (λ h. omega arith) (λ h. omega arith)))
       go false false false e f g = rw (e, f, g) (omega arith)
+
+  -- the same, of the totals before and after it
+  pub grew : {more : Counts} {w w' : ℕ} → more ≡ counted n bap → w ≡ width_of n → w' ≡ width_of more → w' ≡ w + bits_of (open_after n) bap
+  grew e f g = rw (g, f, e) width_grows
 
   pub open_after_lem : now_open (open_after n) bap ≡ open_after (counted n bap)
   open_after_lem = λ i. record { ones = one_more 3 n.ones (eqb bap 1) i; twos = one_more 3 n.twos (eqb bap 2) i; fours = one_more 2 n.fours (eqb bap 4) i }
@@ -98,6 +103,11 @@ counted_added n baps = ap (λ m. counted_all m baps) none ∙ counted_plus n no_
     }
 
 -- ---- none is large
+
+-- a test as a number
+pub one_if : (b : Bool) → bool_byte b ≡ cond b 1 0
+one_if true = refl
+one_if false = refl
 
 pub at_most_one : (which bap : ℕ) → is_pointer which bap ≤ 1
 at_most_one which bap = go (eqb bap which)

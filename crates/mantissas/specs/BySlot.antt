@@ -9,10 +9,11 @@ use Rattle.slots.specs.declared.AllocState.{AllocState}
 use Rattle.slots.specs.declared.Coupling.{Coupling}
 use Rattle.mantissas.specs.Counts.{no_counts, counted_all, plus, width_of, open_after}
 use Rattle.slots.specs.Slots.{CPL, LFE}
-use Rattle.mantissas.specs.Mantissas.{none_open, widths, silent, part_pointers, all_pointers, bits_in, by_slot, Walked, mantissas}
+use Rattle.mantissas.specs.Mantissas.{none_open, widths, silent, part_pointers, all_pointers, bits_in, by_slot, mantissas}
 use Rattle.mantissas.specs.Parts.{parts}
 use Rattle.mantissas.specs.declared.Counts.{Counts}
 use Rattle.mantissas.specs.declared.Part.{Part}
+use Rattle.mantissas.specs.declared.Walked.{Walked}
 
 -- the pieces of a block's walk, and the seven counts of the block
 abbrev pub walked_pieces : (fscod : ℕ) → AllocState → List (List ℤ) → List Part → List ℕ

@@ -17,6 +17,7 @@ use Rattle.slots.specs.declared.Deltas.{Deltas}
 use Rattle.slots.specs.declared.Offsets.{Offsets}
 use Rattle.mantissas.specs.Parts.{parts}
 use Rattle.mantissas.specs.declared.Part.{Part}
+use Rattle.mantissas.specs.declared.Walked.{Walked}
 
 -- ---- 6.2.2.1: what the allocation of a slot goes by, and its pointers
 
@@ -114,10 +115,6 @@ unfoldable pub by_slot : List Part → (ws : List ℕ) → List ℕ
 by_slot ps ws = from 0 7 (λ slot. bits_in slot ps ws)
 
 -- ---- the mantissas of a block: the bit at which they begin, and the bits of the seven slots
-
-pub record Walked : Type 0 where
-  pub start : ℕ
-  pub bits : List ℕ
 
 -- coupling needs its leak, unless every pointer is 0
 abbrev pub leak_missing : (isSilent cplinu sent : Bool) → Bool

@@ -1,6 +1,6 @@
 -- What bounds the values that the code of the mantissas hands on, so that its indexes and sums are in range, and how its arrays are read as lists. No
 -- part of the definition: contracts cite it.
-use Rattle.std.specs.Prelude.{List, ℕ, ◌-◌, ◌≤◌, ◌<◌, get_or}
+use Rattle.std.specs.Prelude.{List, ℕ, ◌-◌, ◌≤◌, ◌<◌, get_or, take}
 use Rattle.alloc.specs.Allocation.{from}
 use Rattle.slots.specs.Sound.{SoundAlloc, SoundCoupling, SoundEnds}
 use Rattle.mantissas.specs.Parts.{part}
@@ -32,7 +32,7 @@ abbrev pub no_part : Part
 no_part = part 0 0 0
 
 abbrev pub listed : Parts → List Part
-listed ps = between no_part ps.list 0 ps.count
+listed ps = take ps.count ps.list
 
 pub record SoundParts (ps : Parts) : Type 0 where
   pub count : ps.count ≤ 7

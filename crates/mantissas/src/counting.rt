@@ -3,7 +3,7 @@ ghost use Rattle.std.specs.Prelude.{◌≡◌, ℕ, ◌-◌, ◌*◌, ◌<◌, �
 ghost use Rattle.tables.specs.Tables.{bap, mantissa_bits};
 ghost use Rattle.alloc.specs.Allocation.{from};
 ghost use Rattle.alloc.specs.Stages.{bap_at};
-ghost use Rattle.mantissas.specs.Counts.{is_pointer, no_counts, counted, counted_all, plus, width_of, AtMost, packed};
+ghost use Rattle.mantissas.specs.Counts.{no_counts, counted, counted_all, plus, width_of, AtMost, packed};
 
 use crate::Counts;
 
@@ -69,41 +69,41 @@ pub fn count_bins(addresses: &[u8; 256], start: usize, end: usize) -> Counts
 }
 
 // A block has at most seven slots of 253 mantissas, so nothing wraps.
-pub fn add(a: Counts, b: Counts) -> Counts
-    requires { AtMost (7 * 253) a × AtMost (7 * 253) b }
-    ensures { result ≡ plus a b }
-{
-    Counts {
-        bits: a.bits + b.bits,
-        ones: a.ones + b.ones,
-        twos: a.twos + b.twos,
-        fours: a.fours + b.fours,
+impl Counts {
+    // One mantissa more.
+    pub fn with_one(self, bits: &[u8; 16], bap: u8) -> Counts
+        requires { AtMost (7 * 253) self × (bits.now ≡ mantissa_bits) × (bap < 16) }
+        ensures { result ≡ counted self bap }
+    {
+        Counts {
+            bits: self.bits + u32::from(bits[bap as usize]),
+            ones: self.ones + u32::from(bap == 1),
+            twos: self.twos + u32::from(bap == 2),
+            fours: self.fours + u32::from(bap == 4),
+        }
     }
-}
 
-fn one_if(which: u8, bap: u8) -> u32
-    ensures { result ≡ is_pointer which bap }
-{
-    if bap == which { 1 } else { 0 }
-}
-
-// One mantissa more.
-pub fn with_one(n: Counts, bits: &[u8; 16], bap: u8) -> Counts
-    requires { AtMost (7 * 253) n × (bits.now ≡ mantissa_bits) × (bap < 16) }
-    ensures { result ≡ counted n bap }
-{
-    Counts {
-        bits: n.bits + bits[bap as usize] as u32,
-        ones: n.ones + one_if(1, bap),
-        twos: n.twos + one_if(2, bap),
-        fours: n.fours + one_if(4, bap),
+    // These and others.
+    pub fn plus(self, more: Counts) -> Counts
+        requires { AtMost (7 * 253) self × AtMost (7 * 253) more }
+        ensures { result ≡ plus self more }
+    {
+        Counts {
+            bits: self.bits + more.bits,
+            ones: self.ones + more.ones,
+            twos: self.twos + more.twos,
+            fours: self.fours + more.fours,
+        }
     }
-}
 
-// The bits that the mantissas counted take.
-pub fn width_of(n: Counts) -> u32
-    requires { AtMost (7 * 253) n }
-    ensures { result ≡ width_of n }
-{
-    n.bits + 5 * ((n.ones + 2) / 3) + 7 * ((n.twos + 2) / 3) + 7 * ((n.fours + 1) / 2)
+    // The bits that they take.
+    pub fn width(self) -> u32
+        requires { AtMost (7 * 253) self }
+        ensures { result ≡ width_of self }
+    {
+        self.bits
+            + 5 * ((self.ones + 2) / 3)
+            + 7 * ((self.twos + 2) / 3)
+            + 7 * ((self.fours + 1) / 2)
+    }
 }

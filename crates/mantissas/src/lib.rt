@@ -10,7 +10,6 @@ mod parameters;
 mod pointers;
 mod walk;
 
-ghost use Rattle.std.specs.Prelude.{List, ◌≡◌, ℕ};
 ghost use Rattle.syntax.specs.Reads.{Reads};
 ghost use Rattle.slots.specs.Sound.{SoundAlloc, SoundExps};
 ghost use Rattle.mantissas.specs.Mantissas as grammar;
@@ -18,15 +17,13 @@ ghost use Rattle.mantissas.specs.Sound.{SoundBlock};
 ghost use Rattle.mantissas.specs.Kept.{Kept, KeptUnlessNew};
 
 use crate::in_use::parts_in_use;
-use crate::memos::forget_new;
-use crate::parameters::{is_silent, leak_missing};
+use crate::memos::{Taken, count_parts, forget_new};
+use crate::parameters::is_silent;
 use crate::walk::walk;
 use slots::{AllocState, Coupling, Strategies};
-use syntax::cursors::refuse_if;
 use syntax::items::one_roled;
-use syntax::refusals::NO_LEAK;
-use syntax::rows::close;
-use syntax::{Cursor, Role, names};
+use syntax::readers::refuse_if;
+use syntax::{Reader, Refusal, Role, names};
 
 // What the block's mantissas go by, besides the state of its bit allocation and its exponents.
 #[derive(Drop)]
@@ -74,62 +71,42 @@ pub struct Counts {
 
 // The first bit of a block's mantissas, and the bits of each slot.
 #[derive(Drop)]
-pub struct MantissasRead {
+pub struct Walked {
     pub start: u16,
     pub bits: [u16; 7],
-    pub cursor: Cursor,
-}
-
-// Nothing is told where reading stopped.
-fn none_read(cursor: Cursor) -> MantissasRead
-    ensures { result.cursor ≡ cursor }
-{
-    MantissasRead {
-        start: 0,
-        bits: [0; 7],
-        cursor,
-    }
 }
 
 // One span; the answer is its first bit and the bits of the slots. Walked first, and its row is written after. What was counted of the
 // slots in earlier blocks is lent; what was counted from exponents that are new in this block is forgotten before all else, so that it is
 // true of the exponents whatever is read.
 pub fn mantissas(
-    rows: &mut [i32],
-    c: Cursor,
+    r: &mut Reader<'_>,
     block: Block,
     st: AllocState,
     exps: &[[i16; 256]; 7],
     memos: &mut [[u32; 16]; 7],
-) -> MantissasRead
+) -> Result<Walked, Refusal>
     requires sound_block { SoundBlock block × SoundAlloc st × SoundExps exps.now }
     requires kept_unless_new { KeptUnlessNew block.fscod block.strategies memos.old exps.now }
-    ensures by_index { (s : List ℕ) → Reads (grammar.mantissas block.blk block.fscod block.nfchans block.lfeon block.coupling block.ends st exps.now)
-        s c rows.old (record { start = result.start; bits = result.bits }) result.cursor rows.new }
+    ensures reads { Reads (grammar.mantissas block.blk block.fscod block.nfchans block.lfeon block.coupling block.ends st exps.now) r.old result r.new }
     ensures kept { Kept block.fscod memos.new exps.now }
 {
     forget_new(&mut *memos, block.strategies);
-    if c.stop.number != 0 {
-        return none_read(c);
-    }
-    let coupling = block.coupling;
-    let ends = block.ends;
-    let ps = parts_in_use(block.nfchans, block.lfeon, coupling, ends);
-    let silent = is_silent(st.offsets, ps);
-    let leak = st.leak;
-    let known = refuse_if(c, leak_missing(silent, coupling.cplinu, leak.sent), NO_LEAK);
-    if known.stop.number != 0 {
-        return none_read(known);
-    }
-    let start = known.at;
-    let fscod = block.fscod;
+    let ps = parts_in_use(block.nfchans, block.lfeon, block.coupling, block.ends);
+    let silent = is_silent(st.offsets, &ps);
+    refuse_if(
+        !silent & (block.coupling.cplinu & !st.leak.sent),
+        Refusal::NoLeak,
+    )?;
+    let start = r.at;
     let item = one_roled(block.blk, Role::Mantissas, names::MANTISSAS);
-    let walked = walk(known, item, Setting { fscod, st, silent }, exps, memos, ps);
-    let bits = walked.bits;
-    let cursor = close(rows, walked.cursor, item, start);
-    MantissasRead {
-        start,
-        bits,
-        cursor,
-    }
+    let by = Setting {
+        fscod: block.fscod,
+        st,
+        silent,
+    };
+    let Taken { width, bits } = count_parts(by, exps, memos, &ps);
+    walk(&mut *r, item, width, by, exps, &ps)?;
+    r.close(item, start)?;
+    Ok(Walked { start, bits })
 }

@@ -10,7 +10,7 @@ ghost use Rattle.mantissas.specs.Counts.{no_counts, counted_all, AtMost};
 ghost use Rattle.mantissas.specs.Kept.{nothing, memo_of, counts_in, SameBasis, Kept, KeptUnlessNew};
 ghost use Rattle.slots.specs.Reused.{strategy_of};
 
-use crate::counting::{NO_COUNTS, add, count_bins, width_of};
+use crate::counting::{NO_COUNTS, count_bins};
 use crate::parameters::{deltas_of, parameters_of};
 use crate::pointers::zeros;
 use crate::{Counts, Part, Parts, Setting};
@@ -174,27 +174,24 @@ pub fn count_parts(
     by: Setting,
     exps: &[[i16; 256]; 7],
     memos: &mut [[u32; 16]; 7],
-    ps: Parts,
+    ps: &Parts,
 ) -> Taken
-    requires sound_setting { SoundSetting by × SoundExps exps.now × SoundParts ps }
+    requires sound_setting { SoundSetting by × SoundExps exps.now × SoundParts ps.now }
     requires kept { Kept by.fscod memos.old exps.now }
-    ensures width_value { result.width ≡ sum (widths none_open (all_pointers by.fscod by.st exps.now by.silent (listed ps))) }
-    ensures bits_value { result.bits ≡ by_slot (listed ps) (widths none_open (all_pointers by.fscod by.st exps.now by.silent (listed ps))) }
+    ensures width_value { result.width ≡ sum (widths none_open (all_pointers by.fscod by.st exps.now by.silent (listed ps.now))) }
+    ensures bits_value { result.bits ≡ by_slot (listed ps.now) (widths none_open (all_pointers by.fscod by.st exps.now by.silent (listed ps.now))) }
     ensures width_bound { result.width < 65536 }
     ensures kept_2 { Kept by.fscod memos.new exps.now }
 {
     let mut counts = NO_COUNTS;
     let mut width = 0u32;
     let mut bits = [0u16; 7];
-    let count = ps.count;
-    for i in 0..count {
-        let p = ps.list[i];
-        let slot = p.slot as usize;
-        let more = part_counts(by, exps, memos, p);
-        counts = add(counts, more);
+    for p in ps.slots() {
+        let more = part_counts(by, exps, memos, *p);
+        counts = counts.plus(more);
         let before = width;
-        width = width_of(counts);
-        bits[slot] += (width - before) as u16;
+        width = counts.width();
+        bits[p.slot as usize] += (width - before) as u16;
     }
     Taken { width, bits }
 }

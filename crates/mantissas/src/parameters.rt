@@ -11,29 +11,16 @@ use alloc::{Gains, Parameters};
 use slots::{AllocState, CPL, Deltas, LFE, NO_DELTAS, Offsets};
 
 // Whether the coarse offset and the fine ones of the slots in use are all 0: then every pointer is 0.
-pub fn is_silent(offsets: Offsets, ps: Parts) -> bool
-    requires { SoundParts ps }
-    ensures { result ≡ grammar.silent offsets (listed ps) }
+pub fn is_silent(offsets: Offsets, ps: &Parts) -> bool
+    requires { SoundParts ps.now }
+    ensures { result ≡ grammar.silent offsets (listed ps.now) }
 {
-    let count = ps.count;
-    for i in 0..count {
-        let p = ps.list[i];
-        let slot = p.slot as usize;
-        if offsets.fsnroffst[slot] != 0 {
+    for p in ps.slots() {
+        if offsets.fsnroffst[p.slot as usize] != 0 {
             return false;
         }
     }
     offsets.csnroffst == 0
-}
-
-// Whether coupling needs its leak and it was never sent.
-pub fn leak_missing(silent: bool, cplinu: bool, sent: bool) -> bool
-    ensures { result ≡ grammar.leak_missing silent cplinu sent }
-{
-    if silent {
-        return false;
-    }
-    if cplinu { !sent } else { false }
 }
 
 // The leak of a slot before its first band, by its code: coupling alone has one.

@@ -20,7 +20,8 @@ use Rattle.syntax.specs.Place.{flatten}
 use Rattle.syntax.specs.Run.{Row, start, rows_of}
 use Rattle.header.specs.Header.{syncinfo, programmes, programme_info, alternate_info, time_codes, additional_info, bsi, header}
 use Rattle.header.specs.declared.Header.{Header}
-use Rattle.parameters.specs.Delta.{Coded, delta_code, channel_code, delta_name, segment, new_deltas, slot_deltas, coded_deltas, deltas}
+use Rattle.parameters.specs.declared.delta.Coded.{Coded}
+use Rattle.parameters.specs.Delta.{delta_code, channel_code, delta_name, segment, new_deltas, slot_deltas, coded_deltas, deltas}
 use Rattle.parameters.specs.Parameters.{new_curve, curve, fine_offset, channel_offset, new_offsets, offsets, new_leak, coupling_leak}
 use Rattle.slots.specs.Slots.{CPL, LFE, first_coupled, past_coupled, coupled, is_new}
 use Rattle.slots.specs.declared.AllocState.{AllocState}

@@ -13,7 +13,8 @@ use Rattle.slots.specs.declared.Strategies.{Strategies}
 use Rattle.parameters.specs.Delta.{deltas}
 use Rattle.parameters.specs.Parameters.{curve, offsets, coupling_leak}
 use Rattle.exponents.specs.Exponents.{Exponents, exponents}
-use Rattle.mantissas.specs.Mantissas.{Walked, mantissas}
+use Rattle.mantissas.specs.Mantissas.{mantissas}
+use Rattle.mantissas.specs.declared.Walked.{Walked}
 use Rattle.channels.specs.Coupling.{coupling_strategy, coupling_coordinates, rematrixing}
 use Rattle.channels.specs.Strategies.{exponent_strategies, bandwidths, channel_ends}
 use Rattle.channels.specs.declared.Bandwidths.{Bandwidths}

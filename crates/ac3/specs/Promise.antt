@@ -3,6 +3,7 @@
 use Rattle.std.specs.Prelude.{List, ◌++◌, ◌≡◌, ℕ, ◌*◌, ◌/◌, ◌≤◌, ℤ, length, drop}
 use Rattle.bits.specs.Bits.{bits_before}
 use Rattle.syntax.specs.declared.Refusal.{Refusal}
+use Rattle.syntax.specs.Refusals.{number, name, block}
 use Rattle.syntax.specs.Numbers.{row_width}
 use Rattle.syntax.specs.Place.{flatten}
 use Rattle.syntax.specs.Demand3.{Alike}
@@ -43,9 +44,11 @@ bit_of c = end_of syncframe (input c) (room_for c)
 abbrev pub Reaches : Call → Type 0
 Reaches c = Accepts syncframe (input c) (room_for c)
 
--- the refusal that an answer tells by three of its numbers
-abbrev pub refusal_of : Answer → Refusal
-refusal_of a = record { number = a.refusal; name = a.name; block = a.block }
+-- an answer tells a refusal by three of its numbers
+pub record Tells (a : Answer) (x : Refusal) : Type 0 where
+  pub refusal : a.refusal ≡ number x
+  pub name : a.name ≡ name x
+  pub block : a.block ≡ block x
 
 pub record Promised (c : Call) (a : Answer) (after : List ℤ) : Type 0 where
   -- accepted, or one of twenty-three refusals
@@ -54,7 +57,7 @@ pub record Promised (c : Call) (a : Answer) (after : List ℤ) : Type 0 where
   pub sound : a.refusal ≡ 0 → Reaches c
   pub complete : Reaches c → a.refusal ≡ 0
   -- and else refused as the definition does: the number, and the name and the block of what did not fit
-  pub which : (x : Refusal) → (parse syncframe (input c) (room_for c)).end ≡ refused x → refusal_of a ≡ x
+  pub which : (x : Refusal) → (parse syncframe (input c) (room_for c)).end ≡ refused x → Tells a x
   -- which refusal 6 alone tells
   pub others : ¬ (a.refusal ≡ 6) → Neither a.name a.block
   -- the rows are the definition's list, in front, and the rest of the room is as it was

@@ -275,6 +275,8 @@ pub fn audio_block(
     let coupling = coupled.coupling;
     let read = exponent_section(r, exps, blk, header, coupling, old.bandwidths, old.cover)?;
     let bandwidths = read.bandwidths;
+    let cover = read.cover;
+    let ends = read.ends;
     let alloc = alloc_state(r, blk, n, coupling.cplinu, header.lfeon, old.alloc)?;
     skip_field(r, blk)?;
     let block = Block {
@@ -284,18 +286,26 @@ pub fn audio_block(
         lfeon: header.lfeon,
         coupling,
         strategies: read.strategies,
-        ends: read.ends,
+        ends,
     };
     let spanned = mantissas(r, block, alloc, exps, memos)?;
     let chincpl = coupling.chincpl;
     let had = had_by_now(had, chincpl, coupled.cplcoe);
     let sent = sent_so_far(tally.coordinates, chincpl, had);
-    let tally = counted(blk, start, spanned.start, spanned.bits, coupling.cplinu, sent, tally);
+    let tally = counted(
+        blk,
+        start,
+        spanned.start,
+        spanned.bits,
+        coupling.cplinu,
+        sent,
+        tally,
+    );
     Ok(Left {
         state: State {
             coupling,
             bandwidths,
-            cover: read.cover,
+            cover,
             alloc,
         },
         tally,

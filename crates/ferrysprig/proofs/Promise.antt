@@ -96,7 +96,7 @@ of_answer c a after kept within =
       numbered = (a.refusal, refl, kept.numbered);
       sound = λ e. kept.sound (same e);
       complete = λ ok. ap pos (kept.complete ok);
-      which = λ x e. ap (λ y. pos (number y)) (kept.which x e);
+      which = λ x e. ap pos (kept.which x e).refusal;
       next = λ e. next_told c a after kept (same e);
       others = λ h. let (name, block) = kept.others (λ six. h (ap pos six)) in (ap pos name, ap shown block);
       written = kept.written;

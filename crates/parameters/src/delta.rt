@@ -1,7 +1,6 @@
 // Delta bit allocation (4.3.3, 4.4.3.47): for each slot up to eight segments, kept from block to block.
-ghost use Rattle.std.specs.Prelude.{◌≡◌, [], ◌∷◌, ◌*◌, ◌<◌, ◌≤◌, replicate, IfOk};
-ghost use Rattle.std.proofs.lemmas.List.Edits.{sets};
-ghost use Rattle.syntax.specs.Grammar.{one, part_of, read_if, for};
+ghost use Rattle.std.specs.Prelude.{◌≡◌, ◌<◌, ◌≤◌, IfOk};
+ghost use Rattle.syntax.specs.Grammar.{one, part_of, read_if};
 ghost use Rattle.syntax.specs.Names as Name;
 ghost use Rattle.syntax.specs.Reads.{Reads};
 ghost use Rattle.slots.specs.Slots as slots;
@@ -55,19 +54,6 @@ fn coupling_code(r: &mut Reader<'_>, blk: u8, cplinu: bool, coded: Coded) -> Res
 {
     if cplinu {
         return delta_code(r, blk, CPL, one(blk, names::CPLDELTBAE), coded);
-    }
-    Ok(coded)
-}
-
-// The codes of the channels.
-fn channel_codes(r: &mut Reader<'_>, blk: u8, nfchans: u8, coded: Coded) -> Result<Coded, Refusal>
-    requires { (nfchans ≤ 5) × SoundDeltas coded.deltas }
-    ensures reads { Reads (for 0 nfchans coded (grammar.channel_code blk)) r.old result r.new }
-    ensures sound_deltas { IfOk result (λ next. SoundDeltas next.deltas) }
-{
-    let mut coded = coded;
-    for ch in 0..nfchans {
-        coded = delta_code(r, blk, ch, nth(blk, names::DELTBAE, ch), coded)?;
     }
     Ok(coded)
 }
@@ -151,25 +137,6 @@ fn slot_deltas(
     Ok(next)
 }
 
-// The same for the channels, one after the other.
-fn channel_deltas(
-    r: &mut Reader<'_>,
-    blk: u8,
-    nfchans: u8,
-    codes: [u8; 7],
-    deltas: [Deltas; 7],
-) -> Result<[Deltas; 7], Refusal>
-    requires { (nfchans ≤ 5) × SoundDeltas deltas }
-    ensures reads { Reads (for 0 nfchans deltas (grammar.slot_deltas blk codes)) r.old result r.new }
-    ensures sound_deltas { IfOk result SoundDeltas }
-{
-    let mut deltas = deltas;
-    for ch in 0..nfchans {
-        deltas = slot_deltas(r, blk, codes, ch, deltas)?;
-    }
-    Ok(deltas)
-}
-
 // ---- a block
 
 // All codes, and then all new segments.
@@ -188,10 +155,15 @@ fn coded_deltas(
         codes: [0; 7],
         deltas: old,
     };
-    let coupling = coupling_code(r, blk, cplinu, start)?;
-    let coded = channel_codes(r, blk, nfchans, coupling)?;
-    let deltas = slot_deltas(r, blk, coded.codes, CPL, coded.deltas)?;
-    channel_deltas(r, blk, nfchans, coded.codes, deltas)
+    let mut coded = coupling_code(r, blk, cplinu, start)?;
+    for ch in 0..nfchans {
+        coded = delta_code(r, blk, ch, nth(blk, names::DELTBAE, ch), coded)?;
+    }
+    let mut deltas = slot_deltas(r, blk, coded.codes, CPL, coded.deltas)?;
+    for ch in 0..nfchans {
+        deltas = slot_deltas(r, blk, coded.codes, ch, deltas)?;
+    }
+    Ok(deltas)
 }
 
 // The delta bit allocation of a block. Where deltbaie is 0 the segments stay; in block 0 there are none.

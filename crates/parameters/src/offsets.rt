@@ -1,6 +1,6 @@
 // The SNR offsets and fast gains (4.3.3, 4.4.3.36 to .43): a coarse offset, and a fine one with a gain for each slot in use.
 ghost use Rattle.std.specs.Prelude.{◌<◌, ◌≤◌, IfOk};
-ghost use Rattle.syntax.specs.Grammar.{read_if, for};
+ghost use Rattle.syntax.specs.Grammar.{read_if};
 ghost use Rattle.syntax.specs.Reads.{Reads};
 ghost use Rattle.slots.specs.Sound.{SoundOffsets};
 ghost use Rattle.parameters.specs.Parameters as grammar;
@@ -50,27 +50,6 @@ fn fine_offset_when(
     Ok(old)
 }
 
-// Those of the full bandwidth channels.
-fn channel_offsets(
-    r: &mut Reader<'_>,
-    blk: u8,
-    nfchans: u8,
-    old: Offsets,
-) -> Result<Offsets, Refusal>
-    requires nfchans_bound { nfchans ≤ 5 }
-    requires sound_offsets { SoundOffsets old }
-    ensures reads { Reads (for 0 nfchans old (grammar.channel_offset blk)) r.old result r.new }
-    ensures sound_offsets_2 { IfOk result SoundOffsets }
-{
-    let mut offsets = old;
-    for ch in 0..nfchans {
-        let offset = nth(blk, names::FSNROFFST, ch);
-        let gain = nth(blk, names::FGAINCOD, ch);
-        offsets = fine_offset(r, ch, offset, gain, offsets)?;
-    }
-    Ok(offsets)
-}
-
 fn new_offsets(
     r: &mut Reader<'_>,
     blk: u8,
@@ -91,11 +70,15 @@ fn new_offsets(
     };
     let offset = one(blk, names::CPLFSNROFFST);
     let gain = one(blk, names::CPLFGAINCOD);
-    let coupling = fine_offset_when(r, cplinu, CPL, offset, gain, coarse)?;
-    let channels = channel_offsets(r, blk, nfchans, coupling)?;
+    let mut offsets = fine_offset_when(r, cplinu, CPL, offset, gain, coarse)?;
+    for ch in 0..nfchans {
+        let offset = nth(blk, names::FSNROFFST, ch);
+        let gain = nth(blk, names::FGAINCOD, ch);
+        offsets = fine_offset(r, ch, offset, gain, offsets)?;
+    }
     let offset = one(blk, names::LFEFSNROFFST);
     let gain = one(blk, names::LFEFGAINCOD);
-    fine_offset_when(r, lfeon, LFE, offset, gain, channels)
+    fine_offset_when(r, lfeon, LFE, offset, gain, offsets)
 }
 
 // The offsets of a block: new ones where they are announced, else those in force.

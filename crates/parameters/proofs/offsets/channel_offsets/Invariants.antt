@@ -1,8 +1,0 @@
--- The loop of `parameters::offsets::channel_offsets`: which channels are left, and that the offsets are sound.
-use Rattle.syntax.proofs.Sequence.{Turns}
-use Rattle.slots.specs.Sound.{SoundOffsets}
-use Rattle.parameters.specs.Parameters.{channel_offset}
-use Rattle.parameters.proofs.offsets.channel_offsets.Given as goal
-
-abbrev pub invariant-loop-ch : goal.invariant-loop-ch
-invariant-loop-ch l = Turns (channel_offset l.fn.blk) 0 l.fn.nfchans l.fn.old l.initial.r l.ch l.offsets l.r × SoundOffsets l.offsets

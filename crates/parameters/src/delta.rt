@@ -15,11 +15,11 @@ use syntax::{Item, NONE, Reader, Refusal, names};
 // ---- codes
 
 // The codes of a block (Table 4.11: 0 keeps the segments of a slot, 1 announces new ones, 2 clears them), and the segments in force. A code
-// stays the number that the definition compares.
+// stays the number that the definition compares. (Public because the definition speaks of it.)
 #[derive(Clone, Copy)]
-struct Coded {
-    codes: [u8; 7],
-    deltas: [Deltas; 7],
+pub struct Coded {
+    pub codes: [u8; 7],
+    pub deltas: [Deltas; 7],
 }
 
 // The code of a slot.

@@ -1,5 +1,5 @@
 -- The loop of `ac3::block::had_by_now`: the channels before the one that is looked at are done.
-use Rattle.std.proofs.Common.{◌≡◌, ◌×◌, ℕ, ◌<◌, length, false}
+use Rattle.std.proofs.Common.{◌≡◌, ℕ, ◌<◌, length, false}
 use Rattle.std.specs.Prelude.{◌&&◌, ◌||◌, get_or}
 use Rattle.ac3.proofs.block.had_by_now.Given as goal
 

@@ -1,8 +1,8 @@
 // The groups of a set where frame, input and room hold all of them: no group needs a test of its own, and where reading stands is told by the
 // group's number alone.
-ghost use Rattle.std.specs.Prelude.{◌≡◌, true, ◌+◌, ◌*◌, ◌^◌, ◌<◌, ◌≤◌, length, Ok};
+ghost use Rattle.std.specs.Prelude.{◌≡◌, true, ◌+◌, ◌*◌, ◌^◌, ◌<◌, ◌≤◌, length};
 ghost use Rattle.std.proofs.lemmas.List.Edits.{sets};
-ghost use Rattle.syntax.specs.Grammar.{for, take, part_of};
+ghost use Rattle.syntax.specs.Grammar.{for, part_of};
 ghost use Rattle.syntax.specs.Numbers.{row_width, numbers};
 ghost use Rattle.syntax.specs.Reads.{Reads, with_lent};
 ghost use Rattle.syntax.specs.Run.{row, spanning};
@@ -63,19 +63,6 @@ fn write_group(rows: &mut [i32], to: usize, set: Grouping, n: usize, start: usiz
     rows[to + 8] = n as i32;
 }
 
-// Reads the number of group n, where the groups before it began at the reader's place. The reader stays there.
-fn take_group(r: &mut Reader<'_>, set: Grouping, n: usize) -> u32
-    requires { AtHand (at_hand.past n r.old) 1 × (n < 255) }
-    ensures reads { Reads (take (part_of set.blk set.name set.index n) 7) (at_hand.past n r.old) (Ok result) (at_hand.past (n + 1) r.new) }
-    ensures stays { r.new ≡ record r.old { rows = r.new.rows } }
-    ensures upper_bound { result < 128 }
-{
-    let start = r.at as usize + 7 * n;
-    let value = bits::get_at_hand(r.bytes, start, 7);
-    write_group(r.rows, (r.count + n) * ROW, set, n, start, value);
-    value
-}
-
 // All groups of a set. The reader's place is set once: at the end, or past the group that is refused.
 pub(crate) fn groups_at_hand(
     r: &mut Reader<'_>,
@@ -92,9 +79,16 @@ pub(crate) fn groups_at_hand(
 {
     let steps = steps();
     let width = 3 * bins_each(set.strategy);
+    // The reader's fields are looked up here, and not again for each group.
+    let bytes = r.bytes;
+    let rows = &mut *r.rows;
+    let first_bit = r.at as usize;
+    let first_row = r.count;
     let mut exponent = last;
     for n in 0..set.count {
-        let group = take_group(r, set, n);
+        let start = first_bit + 7 * n;
+        let group = bits::get_at_hand(bytes, start, 7);
+        write_group(rows, (first_row + n) * ROW, set, n, start, group);
         let at = set.first + n * width;
         exponent = match unpack_group(row, &steps, set.strategy, at, exponent, group) {
             Ok(made) => made,

@@ -19,23 +19,14 @@ use syntax::{ROW, Reader, Refusal};
 
 // Whether frame, input and room hold so many groups.
 pub(crate) fn all_at_hand(r: &Reader<'_>, count: usize) -> bool
+    requires { count ≤ 256 }
     ensures { result ≡ true → AtHand r.now count }
 {
-    let left = r.rows.len() / ROW;
-    if left < count {
-        return false;
-    }
-    if left - count < r.count {
-        return false;
-    }
     let end = r.at as usize + 7 * count;
-    if (r.limit as usize) < end {
-        return false;
-    }
-    if r.bytes.len() < end / 8 + 2 {
-        return false;
-    }
-    true
+    let in_frame = end <= r.limit as usize;
+    let in_input = end / 8 + 2 <= r.bytes.len();
+    let in_room = r.count.saturating_add(count) <= r.rows.len() / ROW;
+    in_frame & in_input & in_room
 }
 
 // Goes past so many groups.
@@ -43,7 +34,7 @@ fn go_past(r: &mut Reader<'_>, groups: usize)
     requires { (r.old.at + 7 * groups ≤ r.old.limit) × (r.old.count + groups < 2 ^ 64) }
     ensures { r.new ≡ at_hand.past groups r.old }
 {
-    r.at = (r.at as usize + 7 * groups) as u16;
+    r.at += 7 * groups as u16;
     r.count += groups;
 }
 

@@ -6,6 +6,7 @@ ghost use Rattle.slots.specs.Slots.{is_new};
 ghost use Rattle.slots.specs.declared.Cover.{Cover};
 ghost use Rattle.slots.specs.Sound.{SoundExps, SoundStrategies, SoundEnds};
 ghost use Rattle.exponents.specs.Exponents as grammar;
+ghost use Rattle.exponents.specs.Sound.{SoundSet};
 ghost use Rattle.slots.specs.Reused.{Keeps, ReusedBut, ReusedBy};
 
 use crate::Layout;
@@ -45,7 +46,7 @@ fn slot_exponents(
     refusal: Refusal,
     cover: Cover,
 ) -> Result<Cover, Refusal>
-    requires strategy_bound { (set.slot < 7) × ((set.strategy < 4) × ((set.start < 254) × (set.end < 254))) }
+    requires sound_set { SoundSet set }
     requires sound_exps { SoundExps exps.old }
     ensures reads { Reads (grammar.slot_exponents set.blk refusal set.slot set.strategy set.start set.end (record { cover = cover; exps = exps.old })) r.old
         (with_lent (λ covered. record { cover = covered; exps = exps.new }) result) r.new }
@@ -69,7 +70,7 @@ pub(crate) fn slot_exponents_if(
     refusal: Refusal,
     cover: Cover,
 ) -> Result<Cover, Refusal>
-    requires strategy_bound { (set.slot < 7) × ((set.strategy < 4) × ((set.start < 254) × (set.end < 254))) }
+    requires sound_set { SoundSet set }
     requires sound_exps { SoundExps exps.old }
     ensures reads { Reads (read_if present (record { cover = cover; exps = exps.old })
         (grammar.slot_exponents set.blk refusal set.slot set.strategy set.start set.end (record { cover = cover; exps = exps.old }))) r.old

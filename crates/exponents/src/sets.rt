@@ -4,7 +4,7 @@ ghost use Rattle.syntax.specs.Grammar.{for, part_of};
 ghost use Rattle.syntax.specs.Reads.{Reads, with_lent};
 ghost use Rattle.slots.specs.Sound.{SoundRow};
 ghost use Rattle.exponents.specs.Exponents as grammar;
-ghost use Rattle.exponents.specs.Sound.{SoundUnpacked, SoundGrouping};
+ghost use Rattle.exponents.specs.Sound.{SoundUnpacked, SoundSet, SoundGrouping};
 
 use crate::at_hand::{all_at_hand, groups_at_hand};
 use crate::groups::{Grouping, bins_each, groups};
@@ -36,35 +36,37 @@ fn first_exponent(row: &mut [i16; 256], slot: u8, absexp: u32) -> u32
     absexp
 }
 
-// The names of a slot's first exponent and of its groups, and their index.
-fn names_of(slot: u8) -> (u8, u8, u8)
-    requires { slot < 7 }
-    ensures { result ≡ (grammar.first_name slot, grammar.group_name slot, grammar.exponent_index slot) }
-{
-    match slot {
-        CPL => (names::CPLABSEXP, names::CPLEXPS, 0),
-        LFE => (names::LFEABSEXP, names::LFEEXPS, 0),
-        _ => (names::ABSEXP, names::EXPS, slot),
+impl Set {
+    // The names of its first exponent and of its groups, and their index.
+    fn names(self) -> (u8, u8, u8)
+        requires { self.slot < 7 }
+        ensures { result ≡ (grammar.first_name self.slot, grammar.group_name self.slot, grammar.exponent_index self.slot) }
+    {
+        match self.slot {
+            CPL => (names::CPLABSEXP, names::CPLEXPS, 0),
+            LFE => (names::LFEABSEXP, names::LFEEXPS, 0),
+            channel => (names::ABSEXP, names::EXPS, channel),
+        }
     }
-}
 
-// The first bin of the groups: a channel's bin 0 has the first exponent.
-fn first_grouped(slot: u8, start: usize) -> usize
-    ensures { result ≡ grammar.first_grouped slot start }
-{
-    if slot == CPL { start } else { 1 }
-}
+    // The first bin of its groups: a channel's bin 0 has the first exponent.
+    fn first_grouped(self) -> usize
+        ensures { result ≡ grammar.first_grouped self.slot self.start }
+    {
+        if self.slot == CPL { self.start } else { 1 }
+    }
 
-// The groups of a set: as many as its bins need. (After a bad coupling range a set may end before it starts: then it has none.)
-fn group_count(set: Set) -> usize
-    requires { (set.strategy < 4) × (set.end < 254) }
-    ensures { result ≡ grammar.group_count set.slot set.strategy set.start set.end }
-{
-    let bins = 3 * bins_each(set.strategy);
-    match set.slot {
-        CPL => set.end.saturating_sub(set.start) / bins,
-        LFE => 2,
-        _ => (set.end.saturating_sub(1) + bins - 3) / bins,
+    // How many groups it has: as many as its bins need. (A bad coupling range may end before it starts: then none.)
+    fn group_count(self) -> usize
+        requires { (self.strategy < 4) × (self.end < 254) }
+        ensures { result ≡ grammar.group_count self.slot self.strategy self.start self.end }
+    {
+        let bins = 3 * bins_each(self.strategy);
+        match self.slot {
+            CPL => self.end.saturating_sub(self.start) / bins,
+            LFE => 2,
+            _ => (self.end.saturating_sub(1) + bins - 3) / bins,
+        }
     }
 }
 
@@ -93,12 +95,12 @@ pub(crate) fn exponent_set(
     row: &mut [i16; 256],
     set: Set,
 ) -> Result<(), Refusal>
-    requires strategy_bound { (set.slot < 7) × ((set.strategy < 4) × ((set.start < 254) × (set.end < 254))) }
+    requires sound_set { SoundSet set }
     requires sound_row { SoundRow row.old }
     ensures reads { Reads (grammar.exponent_set set.blk set.slot set.strategy set.start set.end) r.old (with_lent (λ _. row.new) result) r.new }
     ensures sound_row_2 { SoundRow row.new }
 {
-    let (first_name, group_name, index) = names_of(set.slot);
+    let (first_name, group_name, index) = set.names();
     let absexp = r.take(nth(set.blk, first_name, index), 4)?;
     let last = first_exponent(row, set.slot, absexp);
     let grouping = Grouping {
@@ -106,8 +108,8 @@ pub(crate) fn exponent_set(
         name: group_name,
         index,
         strategy: set.strategy,
-        first: first_grouped(set.slot, set.start),
-        count: group_count(set),
+        first: set.first_grouped(),
+        count: set.group_count(),
     };
     all_groups(r, row, grouping, last)?;
     Ok(())

@@ -1,6 +1,6 @@
--- What is at hand: each group, past those before it; and a loop over the groups whose place is told by their number. Assumes nothing.
+-- What is at hand: each group, past those before it. Assumes nothing.
 use mathlib.Core.List.{List}
-use mathlib.Core.Path.{◌≡◌, refl, sym, subst}
+use mathlib.Core.Path.{◌≡◌, refl}
 use Prim.Native.Nat.{ℕ, ◌+◌, ◌*◌, ◌<◌, ◌≤◌}
 use native.Mathlib.Omega.{arith}
 use lib.IntN.{ℤ}
@@ -11,13 +11,13 @@ use Rattle.std.proofs.lemmas.List.Edits.{sets}
 use Rattle.bits.specs.Bits.{value}
 use Rattle.syntax.specs.declared.Reader.{Reader}
 use Rattle.syntax.specs.declared.Item.{Item}
-use Rattle.syntax.specs.Grammar.{Grammar, take}
+use Rattle.syntax.specs.Grammar.{take}
 use Rattle.syntax.specs.Numbers.{row_width, numbers}
 use Rattle.syntax.specs.Run.{row, spanning}
 use Rattle.syntax.specs.Place.{Place}
 use Rattle.syntax.specs.Reads.{Reads}
 use Rattle.syntax.proofs.Recorded.{recorded_fits, entered_row}
-use Rattle.syntax.proofs.Sequence.{Turns, begins, made}
+use Rattle.syntax.proofs.Sequence.{made}
 use Rattle.exponents.specs.AtHand.{AtHand}
 
 -- the reader past n groups, whose rows were written
@@ -46,10 +46,3 @@ module _ {c : Reader} {groups : ℕ} (h : AtHand c groups) (n : ℕ) (some : n <
       (recorded_fits item 7 group (le-ltb _ _ (omega (arith, h.frame, some)))
       (entered_row item 7 group (c.at + 7 * n) (omega (arith, h.room, some, long)) (rw written (one_more c n _)) (record { bytes = refl; lent = refl; long = kept })))
       is
-
-pub at_first : {A : Type 0} {body : ℕ → A → Grammar A} {last : ℕ} {a : A} {c : Reader} → Turns body 0 last a c 0 a (placed 0 c.rows.now c)
-at_first {body = body} {last} {a} {c} =
-    let at : c.at + 7 * 0 ≡ c.at = omega arith in
-    let count : c.count + 0 ≡ c.count = omega arith in
-    let same : placed 0 c.rows.now c ≡ c = λ i. record c { at = at i; count = count i } in
-    subst (λ (d : Reader). Turns body 0 last a c 0 a d) (sym same) begins

@@ -1,7 +1,6 @@
 -- The bins of a set of exponents: an exponent stands for 1, 2 or 4 of them, and the groups end within the 256 of a row. Assumes nothing.
 use Prim.Native.Nat.{ℕ, zero, suc, ◌+◌, ◌*◌, ◌-◌, ◌/◌, ◌<◌, ◌≤◌}
 use native.Mathlib.Nat.{mul-le-mul_right, suc-mul}
-use native.Mathlib.Numerals.{add-one}
 use native.Mathlib.Omega.{arith}
 use mathlib.Core.Path.{◌≡◌, refl}
 use mathlib.Core.Bool.{Bool, true, false, cond, ◌||◌, true≢false}
@@ -10,11 +9,6 @@ use lib.Dec.{eqb, ltb, lit≤}
 use borrow.Author.Tests.{ltb-false}
 use Rattle.slots.specs.Slots.{CPL, LFE}
 use Rattle.exponents.specs.Exponents.{bins_each, group_count, first_grouped}
-
-pub one_bin : (strategy : ℕ) → strategy < 2 → bins_each strategy ≡ 1
-one_bin zero h = refl
-one_bin (suc zero) h = refl
-one_bin (suc (suc n)) h = absurd (omega arith)
 
 abbrev OneTwoFour : ℕ → Type 0
 OneTwoFour b = (b ≡ 1) ⊎ ((b ≡ 2) ⊎ (b ≡ 4))
@@ -54,10 +48,6 @@ within slot strategy start end h i k = go (eqb slot CPL) (eqb slot LFE) (bins_ea
 -- each group fits where all do
 pub group_fits : (first n count width : ℕ) → n < count → first + count * width ≤ 256 → first + n * width + width ≤ 256
 group_fits first n count width h k = omega (arith, mul-le-mul_right width h, suc-mul n width)
-
--- the next begins where it ends
-pub next_bin : (first n width : ℕ) → first + n * width + width ≡ first + (n + 1) * width
-next_bin first n width = rw (add-one n) (omega (arith, suc-mul n width))
 
 -- and has a number below 255, which stands for no part
 pub group_numbered : (first n strategy : ℕ) → strategy < 4 → first + n * (3 * bins_each strategy) + 3 * bins_each strategy ≤ 256 → n < 255

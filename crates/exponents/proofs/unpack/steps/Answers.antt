@@ -10,8 +10,7 @@ use native.Mathlib.Omega.{arith}
 use borrow.Author.Tests.{eqb-true, lt-ltb, le-ltb}
 use store.Enc.{and_l, and_r}
 use Rattle.exponents.specs.Bytes.{Steps}
-use Rattle.exponents.proofs.unpack.steps.Statement.{statement}
-use Rattle.exponents.proofs.unpack.steps.Tie as tie
+use Rattle.exponents.proofs.unpack.steps.Goals as goal
 
 abbrev entry : ℕ → ℕ
 entry group =
@@ -40,5 +39,5 @@ module _ (l : List ℕ) (t : T (right 0 l)) (long : length l ≡ 128) where
     none = λ group low high. at group high ∙ rw (lt-ltb 124 group low);
   }
 
-pub steps_spec : {M : Type 1} → statement M
-steps_spec = tie.close (tie.spec (λ c. all_right _ tt refl))
+pub returns : goal.returns
+returns c = all_right _ tt refl

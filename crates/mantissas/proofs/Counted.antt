@@ -13,6 +13,7 @@ use borrow.Author.Tests.{eqb-true, eqb-false}
 use mir.Val.{bool_byte}
 use Rattle.tables.specs.Tables.{bap, bap_bits, mantissa_bits}
 use Rattle.tables.proofs.Rules.{small_at}
+use Rattle.alloc.specs.Allocation.{from}
 use Rattle.alloc.proofs.Laws.{allocation_length}
 use Rattle.alloc.proofs.Noted.{from_length}
 use Rattle.syntax.specs.Run.{sum}
@@ -157,6 +158,9 @@ bins_few pointers start end h = rw (from_length (λ k. get_or pointers k 0) (end
 
 pub bins_at_most : {k : ℕ} (n : Counts) (pointers : List ℕ) (start end : ℕ) → end ≤ 253 → AtMost k n → AtMost (k + 253) (counted_all n (between 0 pointers start end))
 bins_at_most n pointers start end h g = no_more (at_most n (between 0 pointers start end) g) (omega (arith, bins_few pointers start end h))
+
+pub bins_counted : (pointer : ℕ → ℕ) (start end : ℕ) → end ≤ 253 → AtMost 253 (counted_all no_counts (from start (end - start) pointer))
+bins_counted pointer start end h = no_more (at_most no_counts (from start (end - start) pointer) none_counted) (rw (from_length pointer (end - start) start) (omega arith))
 
 -- ---- all counts in one number
 

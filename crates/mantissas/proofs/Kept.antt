@@ -1,5 +1,5 @@
 -- What is kept of a slot: where it was counted from the same, it is what would be counted. Assumes nothing.
-use mathlib.Core.Bool.{Bool, true, false, true≢false, cond}
+use mathlib.Core.Bool.{Bool, true, false, true≢false}
 use mathlib.Core.List.{List, []}
 use mathlib.Core.Logic.{◌⊎◌, inl, inr, ⊎_elim}
 use mathlib.Core.Path.{◌≡◌, refl, ap, sym, ◌∙◌}
@@ -87,6 +87,13 @@ kept_unless_new all same = record { seven = all.seven; each = λ slot h reused. 
 
 -- ---- what is new is forgotten, slot by slot
 
+reused : (strategy : ℕ) → is_new strategy ≡ false → strategy ≡ 0
+reused strategy e = go (eqb strategy 0) refl
+  where
+    go : (b : Bool) → eqb strategy 0 ≡ b → strategy ≡ 0
+    go true t = eqb-true strategy 0 t
+    go false t = absurd (true≢false (rw t at e))
+
 -- the slots before one are done: what is kept of them is true; of the others it is true where the block has no new exponents
 pub record KeptBefore (fscod done : ℕ) (s : Strategies) (memos : List (List ℕ)) (exps : List (List ℤ)) : Type 0 where
   pub seven : length memos ≡ 7
@@ -111,14 +118,14 @@ module _ {fscod : ℕ} {s : Strategies} {memos : List (List ℕ)} {exps : List (
             let other : slot ≡ done → ⊥ = eqb-false slot done t in
             rw (get_or-set_other memos done slot memo [] other) (h.each slot p (⊎_elim (λ l. inl (omega arith)) inr q))
 
-    pub slot_done : (new : Bool) → new ≡ is_new (strategy_of s done)
-        → KeptBefore fscod (done + 1) s (set memos done (cond new nothing (get_or memos done []))) exps
-    slot_done true e = one_done nothing (kept_nothing fscod done (get_or exps done []))
-    slot_done false e = one_done (get_or memos done []) (h.each done here (inr (reused (strategy_of s done) (sym e))))
+    pub slot_forgotten : KeptBefore fscod (done + 1) s (set memos done nothing) exps
+    slot_forgotten = one_done nothing (kept_nothing fscod done (get_or exps done []))
+
+    pub slot_left : is_new (strategy_of s done) ≡ false → KeptBefore fscod (done + 1) s memos exps
+    slot_left e = record { seven = h.seven; each = λ slot p q. go slot p q (eqb slot done) refl }
       where
-        reused : (strategy : ℕ) → is_new strategy ≡ false → strategy ≡ 0
-        reused strategy e = go (eqb strategy 0) refl
-          where
-            go : (b : Bool) → eqb strategy 0 ≡ b → strategy ≡ 0
-            go true t = eqb-true strategy 0 t
-            go false t = absurd (true≢false (rw t at e))
+        go : (slot : ℕ) → slot < 7 → (slot < done + 1) ⊎ ReusedBy s slot → (b : Bool) → eqb slot done ≡ b → KeptOf fscod slot (get_or memos slot []) (get_or exps slot [])
+        go slot p q true t = rw (eqb-true slot done t) (h.each done here (inr (reused (strategy_of s done) e)))
+        go slot p q false t =
+            let other : slot ≡ done → ⊥ = eqb-false slot done t in
+            h.each slot p (⊎_elim (λ l. inl (omega arith)) inr q)

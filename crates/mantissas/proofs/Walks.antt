@@ -16,7 +16,7 @@ use Rattle.syntax.specs.declared.Reader.{Reader}
 use Rattle.syntax.specs.declared.Refusal.{Refusal}
 use Rattle.syntax.specs.Place.{Place, Outcome, got, no, stand, and_then}
 use Rattle.syntax.specs.Refusals.{past}
-use Rattle.syntax.specs.Reads.{place, outcome, stepped, walked, with_lent, Same, Writes}
+use Rattle.syntax.specs.Reads.{place, stepped, walked, with_lent, Same, Writes}
 use Rattle.syntax.specs.Run.{sum}
 use Rattle.syntax.proofs.Sequence.{unchanged, onward}
 use Rattle.syntax.proofs.Walk.{walked_append}

@@ -1,5 +1,5 @@
 // Mantissas counted before, kept for each slot while nothing that they depend on has changed.
-ghost use Rattle.std.specs.Prelude.{◌≡◌, true, cond, List, ℕ, ◌<◌, ℤ};
+ghost use Rattle.std.specs.Prelude.{◌≡◌, true, List, ℕ, ◌<◌, ℤ};
 ghost use Rattle.syntax.specs.Run.{sum};
 ghost use Rattle.slots.specs.Slots.{is_new};
 ghost use Rattle.slots.specs.Sound.{SoundAlloc, SoundExps};
@@ -7,7 +7,7 @@ ghost use Rattle.mantissas.specs.Mantissas as grammar;
 ghost use Rattle.mantissas.specs.Mantissas.{none_open, widths, all_pointers, part_pointers, by_slot};
 ghost use Rattle.mantissas.specs.Sound.{SoundSetting, SoundPart, SoundParts, listed};
 ghost use Rattle.mantissas.specs.Counts.{no_counts, counted_all, AtMost};
-ghost use Rattle.mantissas.specs.Kept.{nothing, memo_of, counts_in, SameBasis, Kept, KeptUnlessNew};
+ghost use Rattle.mantissas.specs.Kept.{memo_of, counts_in, SameBasis, Kept, KeptUnlessNew};
 ghost use Rattle.slots.specs.Reused.{strategy_of};
 
 use crate::counting::{NO_COUNTS, count_bins};
@@ -23,21 +23,10 @@ fn is_new(strategies: Strategies, slot: u8) -> bool
     requires { slot < 7 }
     ensures { result ≡ is_new (strategy_of strategies slot) }
 {
-    if slot == CPL {
-        return strategies.cplexpstr != 0;
-    }
-    if slot == LFE {
-        return strategies.lfeexpstr != 0;
-    }
-    strategies.chexpstr[slot as usize] != 0
-}
-
-// Nothing is kept of a slot any more, where its exponents are new.
-fn forget_if(new: bool, memo: &mut [u32; 16])
-    ensures { memo.new ≡ cond new nothing memo.old }
-{
-    if new {
-        *memo = [0u32; 16];
+    match slot {
+        CPL => strategies.cplexpstr != 0,
+        LFE => strategies.lfeexpstr != 0,
+        _ => strategies.chexpstr[slot as usize] != 0,
     }
 }
 
@@ -46,11 +35,16 @@ pub fn forget_new(memos: &mut [[u32; 16]; 7], strategies: Strategies)
     ensures { (fscod : ℕ) (exps : List (List ℤ)) → KeptUnlessNew fscod strategies memos.old exps → Kept fscod memos.new exps }
 {
     for slot in 0..7u8 {
-        forget_if(is_new(strategies, slot), &mut memos[slot as usize]);
+        if is_new(strategies, slot) {
+            memos[slot as usize] = [0; 16];
+        }
     }
 }
 
 // ---- kept
+
+// The numbers of a memo that say what was counted.
+const BASIS: usize = 12;
 
 // What the pointers of a slot without delta segments go by, besides its exponents; and then what was counted.
 fn memo(st: AllocState, p: Part, n: Counts) -> [u32; 16]
@@ -58,22 +52,19 @@ fn memo(st: AllocState, p: Part, n: Counts) -> [u32; 16]
     ensures { result ≡ memo_of st p n }
 {
     let at = p.slot as usize;
-    let curve = st.curve;
-    let offsets = st.offsets;
-    let leak = st.leak;
     [
         p.start as u32,
         p.end as u32,
-        curve.sdcycod as u32,
-        curve.fdcycod as u32,
-        curve.sgaincod as u32,
-        curve.dbpbcod as u32,
-        curve.floorcod as u32,
-        offsets.csnroffst as u32,
-        offsets.fsnroffst[at] as u32,
-        offsets.fgaincod[at] as u32,
-        leak.cplfleak as u32,
-        leak.cplsleak as u32,
+        st.curve.sdcycod as u32,
+        st.curve.fdcycod as u32,
+        st.curve.sgaincod as u32,
+        st.curve.dbpbcod as u32,
+        st.curve.floorcod as u32,
+        st.offsets.csnroffst as u32,
+        st.offsets.fsnroffst[at] as u32,
+        st.offsets.fgaincod[at] as u32,
+        st.leak.cplfleak as u32,
+        st.leak.cplsleak as u32,
         n.bits,
         n.ones,
         n.twos,
@@ -85,18 +76,7 @@ fn memo(st: AllocState, p: Part, n: Counts) -> [u32; 16]
 fn same_basis(kept: &[u32; 16], memo: &[u32; 16]) -> bool
     ensures { result ≡ true → SameBasis kept.now memo.now }
 {
-    for i in 0..12 {
-        if kept[i] != memo[i] {
-            return false;
-        }
-    }
-    true
-}
-
-fn keep_memo(to: &mut [u32; 16], memo: [u32; 16])
-    ensures { to.new ≡ memo }
-{
-    *to = memo;
+    kept[..BASIS] == memo[..BASIS]
 }
 
 fn counts_in(kept: &[u32; 16]) -> Counts
@@ -139,19 +119,15 @@ fn counts_of(by: Setting, exps: &[[i16; 256]; 7], memos: &mut [[u32; 16]; 7], p:
     ensures at_most { AtMost 253 result }
     ensures kept_2 { Kept by.fscod memos.new exps.now }
 {
-    let slot = p.slot;
-    let st = by.st;
-    let deltas = deltas_of(st, slot);
-    if deltas.count != 0 {
+    if deltas_of(by.st, p.slot).count != 0 {
         return count_slot(by, exps, p);
     }
-    let at = slot as usize;
-    let basis = memo(st, p, NO_COUNTS);
-    if same_basis(&memos[at], &basis) {
+    let at = p.slot as usize;
+    if same_basis(&memos[at], &memo(by.st, p, NO_COUNTS)) {
         return counts_in(&memos[at]);
     }
     let counts = count_slot(by, exps, p);
-    keep_memo(&mut memos[at], memo(st, p, counts));
+    memos[at] = memo(by.st, p, counts);
     counts
 }
 

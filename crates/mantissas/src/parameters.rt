@@ -29,23 +29,21 @@ fn leak_of(slot: u8, code: u8) -> i32
     ensures { (result ≡ grammar.leak_of slot code) × Below 17 result }
 {
     if slot == CPL {
-        return (256 * code as u32 + 768) as i32;
+        256 * code as i32 + 768
+    } else {
+        0
     }
-    0
 }
 
 fn gains_of(st: AllocState, slot: u8) -> Gains
     requires { slot < 7 }
     ensures { result ≡ grammar.gains_of st slot }
 {
-    let curve = st.curve;
-    let offsets = st.offsets;
-    let at = slot as usize;
     Gains {
-        fdecay: tables::fast_decay(curve.fdcycod),
-        sdecay: tables::slow_decay(curve.sdcycod),
-        fgain: tables::fast_gain(offsets.fgaincod[at]),
-        sgain: tables::slow_gain(curve.sgaincod),
+        fdecay: tables::fast_decay(st.curve.fdcycod),
+        sdecay: tables::slow_decay(st.curve.sdcycod),
+        fgain: tables::fast_gain(st.offsets.fgaincod[slot as usize]),
+        sgain: tables::slow_gain(st.curve.sgaincod),
     }
 }
 
@@ -55,10 +53,10 @@ pub fn deltas_of(st: AllocState, slot: u8) -> Deltas
     ensures { (result ≡ grammar.deltas_of st slot) × SoundSegments result }
 {
     if slot == LFE {
-        return NO_DELTAS;
+        NO_DELTAS
+    } else {
+        st.deltas[slot as usize]
     }
-    let at = slot as usize;
-    st.deltas[at]
 }
 
 // 6.2.2.1: what the allocation of a slot goes by.
@@ -66,25 +64,19 @@ pub fn parameters_of(fscod: u8, st: AllocState, p: Part) -> Parameters
     requires { (fscod < 3) × SoundAlloc st × SoundPart p }
     ensures { (result ≡ grammar.parameters_of fscod st p) × SoundParameters result }
 {
-    let slot = p.slot;
-    let at = slot as usize;
-    let curve = st.curve;
-    let offsets = st.offsets;
-    let leak = st.leak;
-    let gains = gains_of(st, slot);
-    let deltas = deltas_of(st, slot);
+    let deltas = deltas_of(st, p.slot);
     let segments = deltas.segments;
     Parameters {
         start: p.start as usize,
         end: p.end as usize,
-        gains,
-        fastleak: leak_of(slot, leak.cplfleak),
-        slowleak: leak_of(slot, leak.cplsleak),
-        dbknee: tables::db_knee(curve.dbpbcod),
+        gains: gains_of(st, p.slot),
+        fastleak: leak_of(p.slot, st.leak.cplfleak),
+        slowleak: leak_of(p.slot, st.leak.cplsleak),
+        dbknee: tables::db_knee(st.curve.dbpbcod),
         fscod: fscod as usize,
         segments,
         count: deltas.count as usize,
-        snroffset: alloc::snr_offset(offsets.csnroffst, offsets.fsnroffst[at]),
-        floor: tables::floor(curve.floorcod),
+        snroffset: alloc::snr_offset(st.offsets.csnroffst, st.offsets.fsnroffst[p.slot as usize]),
+        floor: tables::floor(st.curve.floorcod),
     }
 }

@@ -1,6 +1,7 @@
 -- `mantissas::mantissas` meets its contract: what is kept is true from the start, and then a judge, and a walk that is closed by its row. Assumes
 -- nothing.
 use mathlib.Core.Path.{◌≡◌, ap, ◌∙◌}
+use native.Mathlib.Omega.{arith}
 use Rattle.std.specs.Prelude.{Ok, Err}
 use Rattle.syntax.specs.Reads.{Writes, walked}
 use Rattle.syntax.proofs.Sequence.{then, stops, refused, judged, standing, finished}
@@ -35,7 +36,7 @@ returns-in_err-walk-clause-reads c =
     (then _ (judged _ _ (rw (← is_silent) c.in_ok-refuse_if.ensures)) (then _ standing (stops _ (rw c.one_roled-item.ensures at (walk_stops ws c.one_roled-item.result walks)))))
 
 pub close-requires : goal.close-requires
-close-requires c = walked_from _ _ c.in_ok-walk.ensures
+close-requires c = omega (arith, walked_from _ _ c.in_ok-walk.ensures)
 
 pub returns-in_err-close-clause-reads : goal.returns-in_err-close-clause-reads
 unfolding mantissas

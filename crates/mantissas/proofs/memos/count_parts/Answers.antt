@@ -1,11 +1,11 @@
 -- `mantissas::memos::count_parts` meets its contract: a slot takes the bits by which the total grows. Assumes nothing.
 use mathlib.Core.Path.{◌≡◌, refl, ap, sym, ◌∙◌}
-use Prim.Native.Nat.{ℕ, ◌+◌, ◌-◌, ◌*◌, ◌≤◌, ◌<◌}
+use Prim.Native.Nat.{◌+◌, ◌*◌}
 use native.Mathlib.Omega.{arith}
 use lib.ListN.{get_or}
 use Rattle.std.proofs.lemmas.List.{drop_more, drop_all}
 use Rattle.mantissas.specs.BySlot.{own_counts}
-use Rattle.mantissas.specs.Counts.{no_counts, counted_all, plus, AtMost}
+use Rattle.mantissas.specs.Counts.{counted_all, plus, AtMost}
 use Rattle.mantissas.specs.Mantissas.{part_pointers, all_pointers}
 use Rattle.mantissas.specs.Sound.{no_part}
 use Rattle.mantissas.proofs.Allocated.{first_part, few_slots}

@@ -1,5 +1,5 @@
 -- `mantissas::parameters::is_silent` meets its contract: what was passed had offset 0, so that what is left decides. Assumes nothing.
-use mathlib.Core.Path.{◌≡◌, ap, ◌∙◌}
+use mathlib.Core.Path.{ap, ◌∙◌}
 use borrow.Author.Tests.{eq-eqb, ne_eqb}
 use Rattle.std.proofs.lemmas.List.{drop_more, drop_all}
 use Rattle.mantissas.specs.Mantissas.{silent}

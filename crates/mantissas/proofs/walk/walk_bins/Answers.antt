@@ -1,6 +1,6 @@
 -- `mantissas::walk::walk_bins` meets its contract: a mantissa takes as many bits as the total grows by. Assumes nothing.
 use mathlib.Core.Path.{◌≡◌}
-use Prim.Native.Nat.{ℕ, ◌+◌, ◌-◌, ◌*◌, ◌≤◌, ◌<◌}
+use Prim.Native.Nat.{◌-◌}
 use native.Mathlib.Omega.{arith}
 use lib.ListN.{get_or}
 use Rattle.mantissas.specs.Counts.{counted_all, open_after}

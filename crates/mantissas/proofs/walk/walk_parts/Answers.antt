@@ -1,6 +1,4 @@
 -- `mantissas::walk::walk_parts` meets its contract: the pieces of a slot, and then those of the slots that are left. Assumes nothing.
-use mathlib.Core.Path.{◌≡◌}
-use Prim.Native.Nat.{◌-◌, ◌+◌, ◌*◌}
 use native.Mathlib.Omega.{arith}
 use lib.ListN.{get_or}
 use Rattle.std.proofs.lemmas.List.{drop_all}

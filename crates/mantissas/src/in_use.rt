@@ -56,10 +56,10 @@ struct Order {
 
 impl Order {
     // A channel, and directly after the first coupled one coupling.
-    fn add_channel(&mut self, coupling: Coupling, ends: [usize; 5], ch: u8)
+    fn add_channel(&mut self, coupling: &Coupling, ends: &[usize; 5], ch: u8)
         requires ch_bound { (ch < 5) × (self.old.parts.count < 6) × SoundParts self.old.parts }
-        requires sound_coupling { SoundCoupling coupling × SoundEnds ends }
-        ensures by_index { (n : ℕ) → listed self.new.parts ++ slots.channel_parts coupling ends (ch + 1) n self.new.waiting ≡ listed self.old.parts ++ slots.channel_parts coupling ends ch (suc n) self.old.waiting }
+        requires sound_coupling { SoundCoupling coupling.now × SoundEnds ends.now }
+        ensures by_index { (n : ℕ) → listed self.new.parts ++ slots.channel_parts coupling.now ends.now (ch + 1) n self.new.waiting ≡ listed self.old.parts ++ slots.channel_parts coupling.now ends.now ch (suc n) self.old.waiting }
         ensures sound_parts { SoundParts self.new.parts }
         ensures waiting_bound { self.new.parts.count + cond self.new.waiting 1 0 ≤ self.old.parts.count + cond self.old.waiting 1 0 + 1 }
     {
@@ -75,10 +75,10 @@ impl Order {
 }
 
 // The slots in use, in the order of their mantissas.
-pub fn parts_in_use(nfchans: u8, lfeon: bool, coupling: Coupling, ends: [usize; 5]) -> Parts
+pub fn parts_in_use(nfchans: u8, lfeon: bool, coupling: &Coupling, ends: &[usize; 5]) -> Parts
     requires nfchans_bound { nfchans ≤ 5 }
-    requires sound_coupling { SoundCoupling coupling × SoundEnds ends }
-    ensures result_value { listed result ≡ slots.parts nfchans lfeon coupling ends }
+    requires sound_coupling { SoundCoupling coupling.now × SoundEnds ends.now }
+    ensures result_value { listed result ≡ slots.parts nfchans lfeon coupling.now ends.now }
     ensures sound_parts { SoundParts result }
 {
     let mut order = Order {

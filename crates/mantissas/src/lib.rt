@@ -92,8 +92,8 @@ pub fn mantissas(
     ensures kept { Kept block.fscod memos.new exps.now }
 {
     forget_new(&mut *memos, block.strategies);
-    let ps = parts_in_use(block.nfchans, block.lfeon, block.coupling, block.ends);
-    let silent = is_silent(st.offsets, &ps);
+    let ps = parts_in_use(block.nfchans, block.lfeon, &block.coupling, &block.ends);
+    let silent = is_silent(&st.offsets, &ps);
     refuse_if(
         !silent & (block.coupling.cplinu & !st.leak.sent),
         Refusal::NoLeak,
@@ -105,8 +105,8 @@ pub fn mantissas(
         st,
         silent,
     };
-    let Taken { width, bits } = count_parts(by, exps, memos, &ps);
-    walk(&mut *r, item, width, by, exps, &ps)?;
+    let Taken { width, bits } = count_parts(&by, exps, memos, &ps);
+    walk(&mut *r, item, width, &by, exps, &ps)?;
     r.close(item, start)?;
     Ok(Walked { start, bits })
 }

@@ -47,9 +47,9 @@ pub fn forget_new(memos: &mut [[u32; 16]; 7], strategies: Strategies)
 const BASIS: usize = 12;
 
 // What the pointers of a slot without delta segments go by, besides its exponents; and then what was counted.
-fn memo(st: AllocState, p: Part, n: Counts) -> [u32; 16]
-    requires { SoundPart p × SoundAlloc st }
-    ensures { result ≡ memo_of st p n }
+fn memo(st: &AllocState, p: Part, n: Counts) -> [u32; 16]
+    requires { SoundPart p × SoundAlloc st.now }
+    ensures { result ≡ memo_of st.now p n }
 {
     let at = p.slot as usize;
     [
@@ -100,44 +100,48 @@ pub struct Taken {
 }
 
 // The mantissas of a slot, counted by the addresses of its bins: no array of pointers is made.
-fn count_slot(by: Setting, exps: &[[i16; 256]; 7], p: Part) -> Counts
-    requires { SoundSetting by × SoundExps exps.now × SoundPart p }
-    ensures value { result ≡ counted_all no_counts (grammar.pointers by.fscod by.st exps.now p) }
+fn count_slot(by: &Setting, exps: &[[i16; 256]; 7], p: Part) -> Counts
+    requires { SoundSetting by.now × SoundExps exps.now × SoundPart p }
+    ensures value { result ≡ counted_all no_counts (grammar.pointers by.now.fscod by.now.st exps.now p) }
     ensures at_most { AtMost 253 result }
 {
     let at = p.slot as usize;
     let mut addresses = zeros();
-    alloc::addresses_of(&mut addresses, &exps[at], parameters_of(by.fscod, by.st, p));
+    alloc::addresses_of(
+        &mut addresses,
+        &exps[at],
+        parameters_of(by.fscod, &by.st, p),
+    );
     count_bins(&addresses, p.start as usize, p.end as usize)
 }
 
 // The same, counted only where what was kept was counted from something else.
-fn counts_of(by: Setting, exps: &[[i16; 256]; 7], memos: &mut [[u32; 16]; 7], p: Part) -> Counts
-    requires sound_setting { SoundSetting by × SoundExps exps.now × SoundPart p }
-    requires kept { Kept by.fscod memos.old exps.now }
-    ensures value { result ≡ counted_all no_counts (grammar.pointers by.fscod by.st exps.now p) }
+fn counts_of(by: &Setting, exps: &[[i16; 256]; 7], memos: &mut [[u32; 16]; 7], p: Part) -> Counts
+    requires sound_setting { SoundSetting by.now × SoundExps exps.now × SoundPart p }
+    requires kept { Kept by.now.fscod memos.old exps.now }
+    ensures value { result ≡ counted_all no_counts (grammar.pointers by.now.fscod by.now.st exps.now p) }
     ensures at_most { AtMost 253 result }
-    ensures kept_2 { Kept by.fscod memos.new exps.now }
+    ensures kept_2 { Kept by.now.fscod memos.new exps.now }
 {
-    if deltas_of(by.st, p.slot).count != 0 {
+    if deltas_of(&by.st, p.slot).count != 0 {
         return count_slot(by, exps, p);
     }
     let at = p.slot as usize;
-    if same_basis(&memos[at], &memo(by.st, p, NO_COUNTS)) {
+    if same_basis(&memos[at], &memo(&by.st, p, NO_COUNTS)) {
         return counts_in(&memos[at]);
     }
     let counts = count_slot(by, exps, p);
-    memos[at] = memo(by.st, p, counts);
+    memos[at] = memo(&by.st, p, counts);
     counts
 }
 
 // The mantissas of a slot in use: 0 where every pointer is.
-fn part_counts(by: Setting, exps: &[[i16; 256]; 7], memos: &mut [[u32; 16]; 7], p: Part) -> Counts
-    requires sound_setting { SoundSetting by × SoundExps exps.now × SoundPart p }
-    requires kept { Kept by.fscod memos.old exps.now }
-    ensures value { result ≡ counted_all no_counts (part_pointers by.fscod by.st exps.now by.silent p) }
+fn part_counts(by: &Setting, exps: &[[i16; 256]; 7], memos: &mut [[u32; 16]; 7], p: Part) -> Counts
+    requires sound_setting { SoundSetting by.now × SoundExps exps.now × SoundPart p }
+    requires kept { Kept by.now.fscod memos.old exps.now }
+    ensures value { result ≡ counted_all no_counts (part_pointers by.now.fscod by.now.st exps.now by.now.silent p) }
     ensures at_most { AtMost 253 result }
-    ensures kept_2 { Kept by.fscod memos.new exps.now }
+    ensures kept_2 { Kept by.now.fscod memos.new exps.now }
 {
     if by.silent {
         return NO_COUNTS;
@@ -147,17 +151,17 @@ fn part_counts(by: Setting, exps: &[[i16; 256]; 7], memos: &mut [[u32; 16]; 7], 
 
 // The bits that the mantissas of all slots in use take, and those of each of the seven slots: a slot takes what the total grows by.
 pub fn count_parts(
-    by: Setting,
+    by: &Setting,
     exps: &[[i16; 256]; 7],
     memos: &mut [[u32; 16]; 7],
     ps: &Parts,
 ) -> Taken
-    requires sound_setting { SoundSetting by × SoundExps exps.now × SoundParts ps.now }
-    requires kept { Kept by.fscod memos.old exps.now }
-    ensures width_value { result.width ≡ sum (widths none_open (all_pointers by.fscod by.st exps.now by.silent (listed ps.now))) }
-    ensures bits_value { result.bits ≡ by_slot (listed ps.now) (widths none_open (all_pointers by.fscod by.st exps.now by.silent (listed ps.now))) }
+    requires sound_setting { SoundSetting by.now × SoundExps exps.now × SoundParts ps.now }
+    requires kept { Kept by.now.fscod memos.old exps.now }
+    ensures width_value { result.width ≡ sum (widths none_open (all_pointers by.now.fscod by.now.st exps.now by.now.silent (listed ps.now))) }
+    ensures bits_value { result.bits ≡ by_slot (listed ps.now) (widths none_open (all_pointers by.now.fscod by.now.st exps.now by.now.silent (listed ps.now))) }
     ensures width_bound { result.width < 65536 }
-    ensures kept_2 { Kept by.fscod memos.new exps.now }
+    ensures kept_2 { Kept by.now.fscod memos.new exps.now }
 {
     let mut counts = NO_COUNTS;
     let mut width = 0u32;

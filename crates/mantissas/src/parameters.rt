@@ -11,9 +11,9 @@ use alloc::{Gains, Parameters};
 use slots::{AllocState, CPL, Deltas, LFE, NO_DELTAS, Offsets};
 
 // Whether the coarse offset and the fine ones of the slots in use are all 0: then every pointer is 0.
-pub fn is_silent(offsets: Offsets, ps: &Parts) -> bool
+pub fn is_silent(offsets: &Offsets, ps: &Parts) -> bool
     requires { SoundParts ps.now }
-    ensures { result ≡ grammar.silent offsets (listed ps.now) }
+    ensures { result ≡ grammar.silent offsets.now (listed ps.now) }
 {
     for p in ps.slots() {
         if offsets.fsnroffst[p.slot as usize] != 0 {
@@ -35,9 +35,9 @@ fn leak_of(slot: u8, code: u8) -> i32
     }
 }
 
-fn gains_of(st: AllocState, slot: u8) -> Gains
+fn gains_of(st: &AllocState, slot: u8) -> Gains
     requires { slot < 7 }
-    ensures { result ≡ grammar.gains_of st slot }
+    ensures { result ≡ grammar.gains_of st.now slot }
 {
     Gains {
         fdecay: tables::fast_decay(st.curve.fdcycod),
@@ -48,9 +48,9 @@ fn gains_of(st: AllocState, slot: u8) -> Gains
 }
 
 // LFE has no delta.
-pub fn deltas_of(st: AllocState, slot: u8) -> Deltas
-    requires { (slot < 7) × SoundAlloc st }
-    ensures { (result ≡ grammar.deltas_of st slot) × SoundSegments result }
+pub fn deltas_of(st: &AllocState, slot: u8) -> Deltas
+    requires { (slot < 7) × SoundAlloc st.now }
+    ensures { (result ≡ grammar.deltas_of st.now slot) × SoundSegments result }
 {
     if slot == LFE {
         NO_DELTAS
@@ -60,9 +60,9 @@ pub fn deltas_of(st: AllocState, slot: u8) -> Deltas
 }
 
 // 6.2.2.1: what the allocation of a slot goes by.
-pub fn parameters_of(fscod: u8, st: AllocState, p: Part) -> Parameters
-    requires { (fscod < 3) × SoundAlloc st × SoundPart p }
-    ensures { (result ≡ grammar.parameters_of fscod st p) × SoundParameters result }
+pub fn parameters_of(fscod: u8, st: &AllocState, p: Part) -> Parameters
+    requires { (fscod < 3) × SoundAlloc st.now × SoundPart p }
+    ensures { (result ≡ grammar.parameters_of fscod st.now p) × SoundParameters result }
 {
     let deltas = deltas_of(st, p.slot);
     let segments = deltas.segments;

@@ -15,9 +15,9 @@ pub fn zeros() -> [u8; 256]
 }
 
 // The pointers of a slot's bins, or 0 where every pointer is; of what stands elsewhere only the bound is told.
-pub fn part_pointers(by: Setting, exps: &[[i16; 256]; 7], p: Part) -> [u8; 256]
-    requires { SoundSetting by × SoundExps exps.now × SoundPart p }
-    ensures end_value { between 0 result p.start p.end ≡ part_pointers by.fscod by.st exps.now by.silent p }
+pub fn part_pointers(by: &Setting, exps: &[[i16; 256]; 7], p: Part) -> [u8; 256]
+    requires { SoundSetting by.now × SoundExps exps.now × SoundPart p }
+    ensures end_value { between 0 result p.start p.end ≡ part_pointers by.now.fscod by.now.st exps.now by.now.silent p }
     ensures entries { Entries result 16 }
 {
     let mut pointers = zeros();
@@ -25,7 +25,7 @@ pub fn part_pointers(by: Setting, exps: &[[i16; 256]; 7], p: Part) -> [u8; 256]
         alloc::pointers_of(
             &mut pointers,
             &exps[p.slot as usize],
-            parameters_of(by.fscod, by.st, p),
+            parameters_of(by.fscod, &by.st, p),
         );
     }
     pointers

@@ -40,12 +40,12 @@ fn walk_bins(
 fn walk_parts(
     r: &mut Reader<'_>,
     item: Item,
-    by: Setting,
+    by: &Setting,
     exps: &[[i16; 256]; 7],
     ps: &Parts,
 ) -> Result<(), Refusal>
-    requires { SoundSetting by × SoundExps exps.now × SoundParts ps.now }
-    ensures { Writes (walked item (widths none_open (all_pointers by.fscod by.st exps.now by.silent (listed ps.now)))) r.old result r.new }
+    requires { SoundSetting by.now × SoundExps exps.now × SoundParts ps.now }
+    ensures { Writes (walked item (widths none_open (all_pointers by.now.fscod by.now.st exps.now by.now.silent (listed ps.now)))) r.old result r.new }
 {
     let mut counts = NO_COUNTS;
     for p in ps.slots() {
@@ -67,14 +67,14 @@ pub fn walk(
     r: &mut Reader<'_>,
     item: Item,
     width: u32,
-    by: Setting,
+    by: &Setting,
     exps: &[[i16; 256]; 7],
     ps: &Parts,
 ) -> Result<(), Refusal>
-    requires sound { SoundSetting by × SoundExps exps.now × SoundParts ps.now }
-    requires width_value { width ≡ sum (widths none_open (all_pointers by.fscod by.st exps.now by.silent (listed ps.now))) }
+    requires sound { SoundSetting by.now × SoundExps exps.now × SoundParts ps.now }
+    requires width_value { width ≡ sum (widths none_open (all_pointers by.now.fscod by.now.st exps.now by.now.silent (listed ps.now))) }
     requires width_bound { width < 65536 }
-    ensures { Writes (walked item (widths none_open (all_pointers by.fscod by.st exps.now by.silent (listed ps.now)))) r.old result r.new }
+    ensures { Writes (walked item (widths none_open (all_pointers by.now.fscod by.now.st exps.now by.now.silent (listed ps.now)))) r.old result r.new }
 {
     let end = r.at as u32 + width;
     if end <= r.limit as u32 {

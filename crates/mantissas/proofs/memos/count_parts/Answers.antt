@@ -39,10 +39,10 @@ loop-p-preserved c =
     let at = c.loop-p in
     let parts = c.slots-p-items.result.now in
     let part = get_or parts at.p-index no_part in
-    let own = own_counts a.by.fscod a.by.st a.exps.now a.by.silent in
-    let baps = part_pointers a.by.fscod a.by.st a.exps.now a.by.silent part in
+    let own = own_counts a.by.now.fscod a.by.now.st a.exps.now a.by.now.silent in
+    let baps = part_pointers a.by.now.fscod a.by.now.st a.exps.now a.by.now.silent part in
     let total : c.plus-counts.result ≡ plus at.counts (own part) = c.plus-counts.ensures ∙ ap (plus at.counts) c.part_counts-more.ensures.value in
-    let step = first_part a.by.fscod a.by.st a.exps.now a.by.silent parts at.p-index c.loop-p-test.true in
+    let step = first_part a.by.now.fscod a.by.now.st a.exps.now a.by.now.silent parts at.p-index c.loop-p-test.true in
     record {
       slots = part_counted own parts part _ at.counts at.bits (c.slots-p-items.ensures.each_sound at.p-index).slot total at.invariant.total c.width-width.ensures
           (rw (drop_more parts at.p-index no_part c.loop-p-test.true) at at.invariant.slots);
@@ -65,7 +65,7 @@ returns-clause-bits_value c =
     let a = c.args in
     let at = c.loop-p in
     let none = drop_all at.p-index c.slots-p-items.result.now c.loop-p-test.false in
-    rw (← c.slots-p-items.ensures.value) (all_counted a.by.fscod a.by.st a.exps.now a.by.silent c.slots-p-items.result.now at.counts at.bits (rw none at at.invariant.slots))
+    rw (← c.slots-p-items.ensures.value) (all_counted a.by.now.fscod a.by.now.st a.exps.now a.by.now.silent c.slots-p-items.result.now at.counts at.bits (rw none at at.invariant.slots))
 
 pub returns-clause-width_bound : goal.returns-clause-width_bound
 returns-clause-width_bound c =

@@ -26,7 +26,7 @@ returns-clause-value c =
     let is = fills_in (rw c.parameters_of.ensures.0 at c.addresses_of.ensures) in
     c.count_bins.ensures
     ∙ ap (counted_all no_counts)
-    (pointers_are bap (get_or a.exps.now a.p.slot []) (parameters_of a.by.fscod a.by.st a.p) (bap_at bap c.addresses_of.new.out) (λ bin from to. ap (λ (k : ℕ). get_or bap k 0) (is bin from to)))
+    (pointers_are bap (get_or a.exps.now a.p.slot []) (parameters_of a.by.now.fscod a.by.now.st a.p) (bap_at bap c.addresses_of.new.out) (λ bin from to. ap (λ (k : ℕ). get_or bap k 0) (is bin from to)))
 
 pub returns-clause-at_most : goal.returns-clause-at_most
 returns-clause-at_most c = rw c.count_bins.ensures (bins_counted _ c.args.p.start c.args.p.end c.requires.2.end)

@@ -10,7 +10,7 @@ pub returns-then-offsets-p-ne0 : goal.returns-then-offsets-p-ne0
 unfolding silent
 returns-then-offsets-p-ne0 c =
     let step = drop_more c.slots-p-items.result.now c.loop-p.p-index no_part c.loop-p-test.true in
-    (rw (ne_eqb _ 0 c.if-offsets-p-ne0.true) at (rw step at c.loop-p.invariant)) ∙ ap (silent c.args.offsets) c.slots-p-items.ensures.value
+    (rw (ne_eqb _ 0 c.if-offsets-p-ne0.true) at (rw step at c.loop-p.invariant)) ∙ ap (silent c.args.offsets.now) c.slots-p-items.ensures.value
 
 pub loop-p-preserved : goal.loop-p-preserved
 unfolding silent
@@ -21,4 +21,4 @@ loop-p-preserved c =
 pub returns : goal.returns
 unfolding silent
 returns c =
-    (rw (drop_all c.loop-p.p-index c.slots-p-items.result.now c.loop-p-test.false) at c.loop-p.invariant) ∙ ap (silent c.args.offsets) c.slots-p-items.ensures.value
+    (rw (drop_all c.loop-p.p-index c.slots-p-items.result.now c.loop-p-test.false) at c.loop-p.invariant) ∙ ap (silent c.args.offsets.now) c.slots-p-items.ensures.value

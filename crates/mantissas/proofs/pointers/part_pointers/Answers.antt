@@ -3,7 +3,6 @@
 use mathlib.Core.List.{[]}
 use native.Mathlib.Omega.{arith}
 use lib.ListN.{get_or, replicate}
-use Rattle.std.proofs.lemmas.Bool.{not-true, not-false}
 use Rattle.tables.specs.Tables.{bap}
 use Rattle.alloc.proofs.Laws.{pointers_back, pointers_below}
 use Rattle.mantissas.specs.Mantissas.{pointers}
@@ -14,7 +13,7 @@ pub returns-then-not-by-clause-end_value : goal.returns-then-not-by-clause-end_v
 unfolding pointers
 returns-then-not-by-clause-end_value c =
     let a = c.args in
-    rw (not-true a.by.silent c.if-not-by.true, c.pointers_of.ensures, c.parameters_of.ensures.0, c.zeros-pointers.ensures) (pointers_back (replicate 256 0) bap (get_or a.exps.now a.p.slot []) _ (omega (arith, c.requires.2.end)))
+    rw (c.if-not-by.true, c.pointers_of.ensures, c.parameters_of.ensures.0, c.zeros-pointers.ensures) (pointers_back (replicate 256 0) bap (get_or a.exps.now a.p.slot []) _ (omega (arith, c.requires.2.end)))
 
 pub returns-then-not-by-clause-entries : goal.returns-then-not-by-clause-entries
 returns-then-not-by-clause-entries c =
@@ -22,7 +21,7 @@ returns-then-not-by-clause-entries c =
     rw (c.pointers_of.ensures, c.zeros-pointers.ensures) (pointers_below (replicate 256 0) (get_or a.exps.now a.p.slot []) _ (none_below 256))
 
 pub returns-else-not-by-clause-end_value : goal.returns-else-not-by-clause-end_value
-returns-else-not-by-clause-end_value c = rw (not-false c.args.by.silent c.if-not-by.false, c.zeros-pointers.ensures) (silent_lists 256 c.args.p.start c.args.p.end)
+returns-else-not-by-clause-end_value c = rw (c.if-not-by.false, c.zeros-pointers.ensures) (silent_lists 256 c.args.p.start c.args.p.end)
 
 pub returns-else-not-by-clause-entries : goal.returns-else-not-by-clause-entries
 returns-else-not-by-clause-entries c = rw c.zeros-pointers.ensures (none_below 256)

@@ -18,14 +18,14 @@ walk_bins-requires c =
 pub returns-in_err-counts : goal.returns-in_err-counts
 returns-in_err-counts c =
     let at = c.loop-p in
-    let left = slot_left c.args.by c.args.exps.now at.counts _ c.slots-p-items.result.now at.p-index c.loop-p-test.true c.part_pointers-pointers.ensures.end_value at.invariant.left in
+    let left = slot_left c.args.by.now c.args.exps.now at.counts _ c.slots-p-items.result.now at.p-index c.loop-p-test.true c.part_pointers-pointers.ensures.end_value at.invariant.left in
     rw (← c.slots-p-items.ensures.value) (handed c.from_residual.ensures.1 (breaks_off _ _ left c.in_err-counts.ensures.goes_on))
 
 pub loop-p-preserved : goal.loop-p-preserved
 loop-p-preserved c =
     let at = c.loop-p in
     let part = get_or c.slots-p-items.result.now at.p-index no_part in
-    let left = slot_left c.args.by c.args.exps.now at.counts _ c.slots-p-items.result.now at.p-index c.loop-p-test.true c.part_pointers-pointers.ensures.end_value at.invariant.left in
+    let left = slot_left c.args.by.now c.args.exps.now at.counts _ c.slots-p-items.result.now at.p-index c.loop-p-test.true c.part_pointers-pointers.ensures.end_value at.invariant.left in
     record {
       left = rw c.in_ok-counts.ensures.counts_value (goes_on _ _ left c.in_ok-counts.ensures.goes_on);
       few = rw c.in_ok-counts.ensures.counts_value (no_more (bins_at_most at.counts c.part_pointers-pointers.result part.start part.end (c.slots-p-items.ensures.each_sound at.p-index).end at.invariant.few) (omega arith));

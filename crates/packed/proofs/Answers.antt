@@ -7,7 +7,7 @@ use native.Mathlib.Omega.{arith}
 use borrow.Author.Tests.{le-leb, lt-leb}
 use lib.ListN.{length, length-append}
 use lib.Seq.{sets, sets-eq}
-use Rattle.packed.specs.declared.Answer.{Answer}
+use Rattle.packed.specs.Answers.{Answer}
 use Rattle.packed.specs.Converted.{converted}
 use Rattle.listing.proofs.Left.{sets_append}
 

@@ -1,6 +1,6 @@
 -- A whole number of a text at once: the digits so far are those of the value so far, and the reader goes over a printed number and the byte
 -- that ends it as `TextRead` says. Assumes nothing.
-use mathlib.Core.Path.{◌≡◌, refl, ap, subst, sym, ◌∙◌}
+use mathlib.Core.Path.{◌≡◌, refl, ap, sym, ◌∙◌}
 use mathlib.Core.Bool.{Bool, true, false, cond}
 use mathlib.Core.List.{List, [], ◌∷◌, ◌++◌, append_assoc, append-nil}
 use Prim.Native.Nat.{ℕ, ◌+◌, ◌-◌, ◌*◌, ◌≤◌, ◌<◌}
@@ -33,6 +33,7 @@ byte_at l i h e = drop-cons l i 0 h ∙ rw (e, add-one)
 -- ---- digits
 
 pub record Run (l : List ℕ) (at n to : ℕ) : Type 0 where
+  pub on : at < to
   pub shown : drop at l ≡ decimal n ++ drop to l
   pub least : 1 ≤ n
   pub fits : n < 2147483648
@@ -41,13 +42,14 @@ pub record Run (l : List ℕ) (at n to : ℕ) : Type 0 where
 module _ (l : List ℕ) (at : ℕ) where
   pub run_first : (d : ℕ) → at < length l → get_or l at 0 ≡ 48 + d → 1 ≤ d → d < 10 → Run l at d (at + 1)
   run_first d h e m k =
-      record { shown = byte_at l at h e ∙ ap (λ (x : List ℕ). x ++ drop (at + 1) l) (sym (decimal_small k)); least = m; fits = omega arith; within = omega arith }
+      record { on = omega arith; shown = byte_at l at h e ∙ ap (λ (x : List ℕ). x ++ drop (at + 1) l) (sym (decimal_small k)); least = m; fits = omega arith; within = omega arith }
 
   pub run_more : {n to d : ℕ} → Run l at n to → n * 10 + d ≤ 2147483647 → d < 10 → to < length l → get_or l to 0 ≡ 48 + d → Run l at (n * 10 + d) (to + 1)
   run_more {n} {to} {d} r f k h e =
       let c : 48 + d - 48 ≡ d = omega arith in
       let g : decimal n ++ ((48 + d) ∷ []) ≡ decimal (n * 10 + d) = next_digit n (48 + d) r.least r.fits (omega arith) (omega arith) ∙ rw c in
       record {
+        on = omega (arith, r.on);
         shown =
             r.shown
             ∙ ap (λ (x : List ℕ). decimal n ++ x) (byte_at l to h e)
@@ -61,39 +63,40 @@ module _ (l : List ℕ) (at : ℕ) where
   -- a whole number, and the byte after it
   pub spelt :
       (v to s : ℕ) (r : Spelt)
+      → at ≤ to
       → v ≤ 2147483648
       → drop at l ≡ signed v ++ drop to l
-      → (0 < r.end → (r.stored ≡ v) × (r.end ≡ to + 1) × (to < length l) × (get_or l to 0 ≡ s))
+      → (r.stored ≡ v) × (r.end ≡ to + 1) × (to < length l) × (get_or l to 0 ≡ s)
       → SpeltAt l at s r
-  spelt v to s r m e f h =
-      let x = f (omega (arith, h)) in (
-        omega (arith, x.0, m),
-        omega (arith, x.1, x.2),
-        e
-            ∙ ap (λ (y : List ℕ). signed v ++ y) (byte_at l to x.2 x.3)
-            ∙ sym (append_assoc (signed v) (s ∷ []) (drop (to + 1) l))
-            ∙ rw (x.0, x.1) refl,
-      )
+  spelt v to s r k m e x = (
+    omega (arith, x.1, k),
+    omega (arith, x.0, m),
+    omega (arith, x.1, x.2),
+    e
+        ∙ ap (λ (y : List ℕ). signed v ++ y) (byte_at l to x.2 x.3)
+        ∙ sym (append_assoc (signed v) (s ∷ []) (drop (to + 1) l))
+        ∙ rw (x.0, x.1) refl,
+  )
 
   pub spelt_run :
       {n to : ℕ} (s : ℕ) (r : Spelt)
       → Run l at n to
-      → (0 < r.end → (r.stored ≡ n + 1) × (r.end ≡ to + 1) × (to < length l) × (get_or l to 0 ≡ s))
+      → (r.stored ≡ n + 1) × (r.end ≡ to + 1) × (to < length l) × (get_or l to 0 ≡ s)
       → SpeltAt l at s r
   spelt_run {n} {to} s r d f =
       let c : n + 1 - 1 ≡ n = omega arith in
       let e : signed (n + 1) ≡ decimal n = signed_some {v = n + 1} (omega arith) ∙ rw c in
-      spelt (n + 1) to s r (omega (arith, d.fits)) (d.shown ∙ ap (λ (y : List ℕ). y ++ drop to l) (sym e)) f
+      spelt (n + 1) to s r (omega (arith, d.on)) (omega (arith, d.fits)) (d.shown ∙ ap (λ (y : List ℕ). y ++ drop to l) (sym e)) f
 
   pub spelt_zero :
       (s : ℕ) (r : Spelt)
       → at < length l
       → get_or l at 0 ≡ 48
-      → (0 < r.end → (r.stored ≡ 1) × (r.end ≡ at + 1 + 1) × (at + 1 < length l) × (get_or l (at + 1) 0 ≡ s))
+      → (r.stored ≡ 1) × (r.end ≡ at + 1 + 1) × (at + 1 < length l) × (get_or l (at + 1) 0 ≡ s)
       → SpeltAt l at s r
   spelt_zero s r h e f =
       let g : signed 1 ≡ 48 ∷ [] = signed_some {v = 1} (omega arith) ∙ decimal_small {n = 0} (lit< tt) in
-      spelt 1 (at + 1) s r (lit≤ tt) (byte_at l at h e ∙ ap (λ (y : List ℕ). y ++ drop (at + 1) l) (sym g)) f
+      spelt 1 (at + 1) s r (omega arith) (lit≤ tt) (byte_at l at h e ∙ ap (λ (y : List ℕ). y ++ drop (at + 1) l) (sym g)) f
 
   pub spelt_minus :
       (s : ℕ) (r : Spelt)
@@ -101,12 +104,12 @@ module _ (l : List ℕ) (at : ℕ) where
       → get_or l at 0 ≡ 45
       → at + 1 < length l
       → get_or l (at + 1) 0 ≡ 49
-      → (0 < r.end → (r.stored ≡ 0) × (r.end ≡ at + 2 + 1) × (at + 2 < length l) × (get_or l (at + 2) 0 ≡ s))
+      → (r.stored ≡ 0) × (r.end ≡ at + 2 + 1) × (at + 2 < length l) × (get_or l (at + 2) 0 ≡ s)
       → SpeltAt l at s r
   spelt_minus s r h e k g f =
       let c : at + 1 + 1 ≡ at + 2 = omega arith in
       let d : drop (at + 1) l ≡ 49 ∷ drop (at + 2) l = rw c at (byte_at l (at + 1) k g) in
-      spelt 0 (at + 2) s r (lit≤ tt)
+      spelt 0 (at + 2) s r (omega arith) (lit≤ tt)
       (byte_at l at h e ∙ ap (λ (y : List ℕ). 45 ∷ y) d ∙ ap (λ (y : List ℕ). y ++ drop (at + 2) l) (sym (signed_none {v = 0} refl)))
       f
 
@@ -117,14 +120,14 @@ module _ (l : List ℕ) (at : ℕ) where
       → get_or l at 0 < 58
       → at + 1 < length l
       → get_or l (at + 1) 0 ≡ s
-      → SpeltAt l at s (record { stored = get_or l at 0 - 47; end = at + 2 })
+      → SpeltAt l at s (record { stored = get_or l at 0 - 48 + 1; end = at + 2 })
   spelt_digit s low high h e =
-      let v = get_or l at 0 - 47 in
+      let v = get_or l at 0 - 48 + 1 in
       let c : 47 + v ≡ get_or l at 0 = omega arith in
       let g : signed v ≡ get_or l at 0 ∷ [] = signed_digit {v = v} (omega arith) (omega arith) ∙ ap (λ (b : ℕ). b ∷ []) c in
-      spelt v (at + 1) s (record { stored = v; end = at + 2 }) (omega arith)
+      spelt v (at + 1) s (record { stored = v; end = at + 2 }) (omega arith) (omega arith)
       (byte_at l at (omega arith) refl ∙ ap (λ (y : List ℕ). y ++ drop (at + 1) l) (sym g))
-      (λ _. (refl, omega arith, h, e))
+      (refl, omega arith, h, e)
 
   pub spelt_two :
       (s : ℕ)
@@ -141,13 +144,7 @@ module _ (l : List ℕ) (at : ℕ) where
       let c : at + 1 + 1 ≡ at + 2 = omega arith in
       let first : Run l at a (at + 1) = run_first a (omega arith) (omega arith) (omega arith) (omega arith) in
       let both : Run l at (a * 10 + b) (at + 2) = rw c at (run_more {d = b} first (omega arith) (omega arith) (omega arith) (omega arith)) in
-      spelt_run s (record { stored = a * 10 + b + 1; end = at + 3 }) both (λ _. (refl, omega arith, h, e))
-
-pub spelt_same : (l : List ℕ) (at s : ℕ) {r n : Spelt} → n ≡ r → SpeltAt l at s r → SpeltAt l at s n
-spelt_same l at s e f = subst (λ (x : Spelt). SpeltAt l at s x) (sym e) f
-
-pub spelt_none : (l : List ℕ) (at s n : ℕ) → SpeltAt l at s (record { stored = n; end = 0 })
-spelt_none l at s n h = absurd (omega (arith, h))
+      spelt_run s (record { stored = a * 10 + b + 1; end = at + 3 }) both (refl, omega arith, h, e)
 
 -- ---- the reader over a number
 
@@ -175,19 +172,17 @@ pub number_moves :
     (l : List ℕ) (s : Text) (i : ℕ) (r : Spelt)
     → ¬ (number_end s ≡ 0)
     → SpeltAt l i (number_end s) r
-    → i < r.end
     → Moves step tell l s i (grouped (r.stored ∷ [])) (numbered s r.stored) r.end
-number_moves l s i r z f h =
-    let x = f h in
+number_moves l s i r z x =
     let w = signed r.stored ++ (number_end s ∷ []) in
     let rest = drop r.end l in
-    let g = number_goes s r.stored x.0 z in
+    let g = number_goes s r.stored x.1 z in
     record {
-      forward = h;
-      within = x.1;
-      state = ap (λ (y : List ℕ). after step s y) x.2 ∙ after_append step s w rest ∙ ap (λ (t : Text). after step t rest) g.ends;
+      forward = x.0;
+      within = x.2;
+      state = ap (λ (y : List ℕ). after step s y) x.3 ∙ after_append step s w rest ∙ ap (λ (t : Text). after step t rest) g.ends;
       tells =
-          ap (λ (y : List ℕ). told step tell s y) x.2
+          ap (λ (y : List ℕ). told step tell s y) x.3
           ∙ told_append step tell s w rest
           ∙ rw (told_groups s w, g.tells, g.ends) refl;
     }
@@ -213,12 +208,11 @@ pub cell_moves :
     → left ≤ 8
     → rows < 2147483648
     → SpeltAt l i (separator left) r
-    → i < r.end
     → Moves step tell l (cell rows left) i (groups r.stored) (cell (rows_after rows left) (left_after left)) r.end
-cell_moves l rows left i r m k f h =
+cell_moves l rows left i r m k f =
     let e = cell_end rows left in
     rw (append-nil (groups r.stored), cell_numbered rows left r.stored m k) at
-    (number_moves l (cell rows left) i r (λ z. separator_some left (e ∙ z)) (rw e at f) h)
+    (number_moves l (cell rows left) i r (λ z. separator_some left (e ∙ z)) (rw e at f))
 
 -- before the last number of the row
 pub spaced_moves :
@@ -227,8 +221,7 @@ pub spaced_moves :
     → left ≤ 8
     → rows < 2147483648
     → SpeltAt l i 32 r
-    → i < r.end
     → Moves step tell l (cell rows left) i (groups r.stored) (cell rows (left - 1)) r.end
-spaced_moves l rows left i r z m k f h =
+spaced_moves l rows left i r z m k f =
     let e : eqb left 0 ≡ false = ne_eqb left 0 (omega arith) in
-    rw e at (cell_moves l rows left i r m k (rw e f) h)
+    rw e at (cell_moves l rows left i r m k (rw e f))

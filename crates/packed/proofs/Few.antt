@@ -1,5 +1,5 @@
 -- What is told at once is short, so that a sum that is still about the room does not wrap. Assumes nothing.
-use mathlib.Core.List.{List, [], ◌∷◌, append-nil}
+use mathlib.Core.List.{List, [], ◌∷◌}
 use Prim.Native.Nat.{ℕ, ◌-◌, ◌≤◌, zero-le}
 use native.Mathlib.Omega.{arith}
 use lib.Dec.{eqb, lit≤}
@@ -10,23 +10,14 @@ use Rattle.packed.specs.declared.Place.{Place}
 use Rattle.packed.specs.declared.Place.TheVariants.{Count, Cell, Kind, Tail}
 use Rattle.packed.specs.declared.Packed.{Packed}
 use Rattle.packed.specs.declared.Packed.TheVariants.{At, Done, Halt}
-use Rattle.packed.specs.declared.Yield.{Yield}
-use Rattle.packed.specs.declared.Yield.TheVariants.{Nothing, Number}
-use Rattle.listing.specs.Number.{groups, separator, signed}
-use Rattle.listing.specs.Listing.{grouped}
+use Rattle.listing.specs.Number.{separator, signed}
 use Rattle.packed.specs.Packed.{group, say, spoken, tell}
-use Rattle.packed.specs.Text.{listed}
 use Rattle.listing.proofs.Decimals.{decimal_few}
 use Rattle.packed.proofs.Cases.{by_test}
-use Rattle.packed.proofs.Groups.{groups_few}
 
 pub signed_few : (v : ℕ) → length (signed v) ≤ 20
 unfolding signed
 signed_few v = by_test (λ (l : List ℕ). length l ≤ 20) (eqb v 0) (λ _. lit≤ tt) (λ _. decimal_few (v - 1))
-
-pub yield_few : (y : Yield) → length (grouped (listed y)) ≤ 10
-yield_few Nothing = zero-le
-yield_few (Number v) = rw (append-nil (groups v)) (groups_few v)
 
 say_few : (p : Place) (v : ℕ) → length (say p v) ≤ 21
 say_few Count v = zero-le

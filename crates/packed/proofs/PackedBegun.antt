@@ -15,6 +15,8 @@ use Rattle.packed.specs.declared.Group.{Group}
 use Rattle.packed.specs.declared.Group.TheVariants.{Going, Whole, Bad}
 use Rattle.packed.specs.declared.Place.{Place}
 use Rattle.packed.specs.declared.Place.TheVariants.{Count, Cell, Kind, Tail}
+use Rattle.packed.specs.declared.Refusal.TheVariants as refusal
+use Rattle.packed.specs.Answers.{number}
 use Rattle.packed.specs.declared.Packed.{Packed}
 use Rattle.packed.specs.declared.Packed.TheVariants.{At, Done, Halt}
 use Rattle.packed.specs.Machine.{after}
@@ -30,9 +32,9 @@ use Rattle.packed.proofs.PackedRead.{cell_goes, rows_more, tail_goes}
 
 pub by_group :
     (P : Group → Type 0) (n k b : ℕ)
-    → (2147483648 < n + b % 128 * weight k → P (Bad 42))
+    → (2147483648 < n + b % 128 * weight k → P (Bad refusal.TooLarge))
     → (n + b % 128 * weight k ≤ 2147483648 → 128 ≤ b → P (Going (n + b % 128 * weight k) (min (k + 1) 5)))
-    → (b ≡ 0 → ¬ (k ≡ 0) → P (Bad 41))
+    → (b ≡ 0 → ¬ (k ≡ 0) → P (Bad refusal.NeedlessGroup))
     → (n + b % 128 * weight k ≤ 2147483648 → b < 128 → P (Whole (n + b % 128 * weight k)))
     → P (group n k b)
 by_group P n k b large more needless whole =
@@ -53,7 +55,7 @@ by_group P n k b large more needless whole =
 abbrev pub Sound : Packed → Type 0
 Sound (At p n k) = Unit
 Sound Done = Unit
-Sound (Halt n) = Refused n
+Sound (Halt n) = Refused (number n)
 
 reached_sound : (p : Place) (v : ℕ) → Sound (reached p v)
 reached_sound Count v =
@@ -249,7 +251,7 @@ high_fits p n k count (b ∷ gs) e m h v =
         let l = leb-true (n + b % 128 * weight k) 2147483648 t in
         omega (arith, ih l, fits_too n (b % 128) k count e l, value_step n (b % 128) (value gs) count)
     go false t ih =
-        let k : after step (At p n k) (b ∷ gs) ≡ Halt 42 = rw t (packed_halted 42 gs) in
+        let k : after step (At p n k) (b ∷ gs) ≡ Halt refusal.TooLarge = rw t (packed_halted refusal.TooLarge gs) in
         absurd (omega (arith, sym (ap verdict k) ∙ v))
 
 pub value_snoc : (gs : List ℕ) (b : ℕ) → value (gs ++ (b ∷ [])) ≡ value gs + b % 128 * 128 ^ length gs

@@ -15,6 +15,7 @@ use Rattle.packed.specs.declared.Group.{Group}
 use Rattle.packed.specs.declared.Group.TheVariants.{Going, Whole, Bad}
 use Rattle.packed.specs.declared.Place.{Place}
 use Rattle.packed.specs.declared.Place.TheVariants.{Count, Cell, Kind, Tail}
+use Rattle.packed.specs.Answers.{number}
 use Rattle.packed.specs.declared.Packed.{Packed}
 use Rattle.packed.specs.declared.Packed.TheVariants.{At, Done, Halt}
 use Rattle.packed.specs.Machine.{after}
@@ -70,7 +71,7 @@ groups_front g u h l b = sym (groups_large {v = u * 128 + g} (omega arith) b ∙
 abbrev pub Good : List ℕ → ℕ → Group → Type 0
 Good gs b (Going m j) = Part m j (gs ++ (b ∷ []))
 Good gs b (Whole v) = (v ≤ 2147483648) × (gs ++ (b ∷ []) ≡ groups v)
-Good gs b (Bad e) = Refused e
+Good gs b (Bad e) = Refused (number e)
 
 module _ (n k b : ℕ) (gs : List ℕ) (byte : b < 256) (p : Part n k gs) (fits : n + b % 128 * weight k ≤ 2147483648) where
   same : n + b % 128 * weight k ≡ n + b % 128 * 128 ^ p.count
@@ -185,7 +186,7 @@ Before (Tail left) bytes = (done : List ℕ) × (k : Bool) × Rows 0 done × Num
 abbrev pub Seen : Packed → List ℕ → Type 0
 Seen (At p n k) bytes = (done gs : List ℕ) × Before p done × Part n k gs × (bytes ≡ done ++ gs)
 Seen Done bytes = (l : Listing) × Valid l × (packed l ≡ bytes)
-Seen (Halt n) bytes = Refused n
+Seen (Halt n) bytes = Refused (number n)
 
 at_place : (p : Place) (bytes : List ℕ) → Before p bytes → Seen (At p 0 0) bytes
 at_place p bytes w = (bytes, [], w, part_none, sym (append-nil bytes))

@@ -10,6 +10,7 @@ use borrow.Author.Tests.{eq-eqb, ne_eqb, lt-ltb, le-ltb, le-leb, ltb-true, ltb-f
 use lib.Arith.{digits_mod}
 use lib.Dec.{lit<, lit≤, ltb, eqb}
 use lib.ListN.{length}
+use Rattle.packed.specs.declared.Refusal.TheVariants.{NeedlessGroup}
 use Rattle.packed.specs.declared.Group.TheVariants.{Going, Whole, Bad}
 use Rattle.packed.specs.declared.Place.{Place}
 use Rattle.packed.specs.declared.Place.TheVariants.{Count, Cell, Kind, Tail}
@@ -32,7 +33,7 @@ group_last n k v h f z b =
     let r = mod-eq_of_lt h in
     rw (r, m, le-leb (n + v * 128 ^ k) 2147483648 b, lt-ltb v 128 h) (go (eqb v 0) refl)
   where
-    go : (t : Bool) → eqb v 0 ≡ t → cond t (cond (eqb k 0) (Whole (n + v * 128 ^ k)) (Bad 41)) (Whole (n + v * 128 ^ k)) ≡ Whole (n + v * 128 ^ k)
+    go : (t : Bool) → eqb v 0 ≡ t → cond t (cond (eqb k 0) (Whole (n + v * 128 ^ k)) (Bad NeedlessGroup)) (Whole (n + v * 128 ^ k)) ≡ Whole (n + v * 128 ^ k)
     go true e = simp (eq-eqb k 0 (z (eqb-true v 0 e)))
     go false e = refl
 

@@ -16,6 +16,7 @@ use Rattle.packed.specs.declared.Group.TheVariants.{Whole}
 use Rattle.packed.specs.declared.Place.{Place}
 use Rattle.packed.specs.declared.Place.TheVariants.{Count, Cell, Kind, Tail}
 use Rattle.packed.specs.declared.Packed.{Packed}
+use Rattle.packed.specs.declared.Refusal.TheVariants.{WrongValue}
 use Rattle.packed.specs.declared.Packed.TheVariants.{At, Done, Halt}
 use Rattle.packed.specs.Machine.{after}
 use Rattle.listing.specs.Number.{groups}
@@ -284,16 +285,16 @@ at_kind done k =
     rw k.3
     (after_append step start (groups (n + 1)) (joined grouped k.0) ∙ rw (a_count n k.2).ends (all_rows k.0 k.1).ends)
 
-kind_wrong : (v : ℕ) → ¬ (v ≡ 1) → ¬ (v ≡ 2) → reached Kind v ≡ Halt 46
+kind_wrong : (v : ℕ) → ¬ (v ≡ 1) → ¬ (v ≡ 2) → reached Kind v ≡ Halt WrongValue
 kind_wrong v p q = simp (ne_eqb v 1 p, ne_eqb v 2 q)
 
 wrong_read : (bytes : List ℕ) → CountWrong bytes ⊎ KindWrong bytes → packed_verdict bytes ≡ 46
 wrong_read bytes x = elim x [
-  | inl c ↦ rw c.1 (ap verdict (packed_halted 46 c.0))
+  | inl c ↦ rw c.1 (ap verdict (packed_halted WrongValue c.0))
   | inr k ↦
       let e = (whole Kind k.kind k.fits).ends ∙ kind_wrong k.kind k.not_audio k.not_refused in
       rw (k.bytes_are, after_append step start k.done (groups k.kind ++ k.rest), at_kind k.done k.at, after_append step (At Kind 0 0) (groups k.kind) k.rest, e)
-      (ap verdict (packed_halted 46 k.rest))
+      (ap verdict (packed_halted WrongValue k.rest))
 ]
 
 -- ---- a begun number that can be ended

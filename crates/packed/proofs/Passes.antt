@@ -19,6 +19,12 @@ pub resumed :
     → Left out' at' w' whole end size
 resumed l m = record { room = m.room; same = m.same ∙ l.same; ends = m.ends ∙ l.ends; long = m.long ∙ l.long }
 
+-- from the state s on, the rest is read as the whole from the start, and what it tells and the size so far come to the same
+pub record Ahead {S : Type 0} (step : S → ℕ → S) (tell : S → ℕ → List ℕ) (whole : List ℕ) (room : ℕ) (start s : S) (size : ℕ) (rest : List ℕ) : Type 0 where
+  pub state : after step s rest ≡ after step start whole
+  pub count : min (size + length (told step tell s rest)) (room + 1) ≡ min (length (told step tell start whole)) (room + 1)
+  pub most : size ≤ room + 1
+
 module _ {S : Type 0} (step : S → ℕ → S) (tell : S → ℕ → List ℕ) (bytes : List ℕ) where
   after_drop : (s : S) (i : ℕ) → i < length bytes → after step s (drop i bytes) ≡ after step (step s (get_or bytes i 0)) (drop (i + 1) bytes)
   after_drop s i h = rw (add-one, drop-cons bytes i 0 h)
@@ -51,25 +57,35 @@ module _ {S : Type 0} (step : S → ℕ → S) (tell : S → ℕ → List ℕ) (
         most = omega arith;
       }
 
-  pub counted_more :
-      {room : ℕ} {start s s' : S} {size size' i k : ℕ}
+  pub ahead : {room : ℕ} {start s : S} {size i : ℕ} → Counted step tell bytes room start s size i → Ahead step tell bytes room start s size (drop i bytes)
+  ahead c = record { state = c.state; count = c.count; most = c.most }
+
+  -- a byte of the rest
+  pub ahead_more :
+      {whole : List ℕ} {room : ℕ} {start s s' : S} {size size' i k : ℕ}
       → i < length bytes
-      → Counted step tell bytes room start s size i
+      → Ahead step tell whole room start s size (drop i bytes)
       → k ≡ length (tell s (get_or bytes i 0))
       → size' ≡ min (size + k) (room + 1)
       → s' ≡ step s (get_or bytes i 0)
-      → Counted step tell bytes room start s' size' (i + 1)
-  counted_more {s = s} {i = i} h c p q r = rw r (counted_on c (one_byte s i h) p q)
+      → Ahead step tell whole room start s' size' (drop (i + 1) bytes)
+  ahead_more {s = s} {i = i} h a p q r =
+      rw r
+      (record {
+        state = sym (after_drop s i h) ∙ a.state;
+        count = omega (arith, a.count, ap length (told_drop s i h), length-append (tell s (get_or bytes i 0)) (told step tell (step s (get_or bytes i 0)) (drop (i + 1) bytes)));
+        most = omega arith;
+      })
 
-  pub counted_all_lem :
-      {room : ℕ} {start s : S} {size i : ℕ}
+  pub ahead_none :
+      {whole : List ℕ} {room : ℕ} {start s : S} {size i : ℕ}
       → length bytes ≤ i
-      → Counted step tell bytes room start s size i
-      → (s ≡ after step start bytes) × (size ≡ min (length (told step tell start bytes)) (room + 1))
-  counted_all_lem {room} {start} {s} {size} {i} h c = (
-    rw (drop_of_length-le bytes h) at c.state,
-    let e : min (size + 0) (room + 1) ≡ min (length (told step tell start bytes)) (room + 1) = rw (drop_of_length-le bytes h) at c.count in
-        omega (arith, e, c.most),
+      → Ahead step tell whole room start s size (drop i bytes)
+      → (s ≡ after step start whole) × (size ≡ min (length (told step tell start whole)) (room + 1))
+  ahead_none {whole} {room} {start} {s} {size} {i} h a = (
+    rw (drop_of_length-le bytes h) at a.state,
+    let e : min (size + 0) (room + 1) ≡ min (length (told step tell start whole)) (room + 1) = rw (drop_of_length-le bytes h) at a.count in
+        omega (arith, e, a.most),
   )
 
   module _ (s : S) (i : ℕ) {out : List ℕ} {to : ℕ} {whole : List ℕ} {end size : ℕ} where

@@ -60,7 +60,7 @@ module _ (l : List ℕ) (at : ℕ) where
       }
 
   pub running_ends : {n k i v : ℕ} → Running n k i → i < length l → group n k (get_or l i 0) ≡ Whole v → StoredAt l at (record { stored = v; end = i + 1 })
-  running_ends {n} {k} {i} r h g _ p =
+  running_ends {n} {k} {i} r h g p =
       record {
         forward = omega (arith, r.from);
         within = omega arith;
@@ -84,12 +84,9 @@ module _ (l : List ℕ) (at : ℕ) where
       let c : at + 1 + 1 ≡ at + 2 = omega arith in
       rw c at (running_ends one h two)
 
-pub stored_none : (l : List ℕ) (at : ℕ) → StoredAt l at (record { stored = 0; end = 0 })
-stored_none l at h = absurd (omega (arith, h))
-
--- no number goes past the end
-pub spot_on : {l : List ℕ} {i : ℕ} {r : Spelt} → StoredAt l i r → i < r.end → r.end ≤ length l
-spot_on f h = (f h Kind).within
+-- a number goes on, and not past the end
+pub spot_on : {l : List ℕ} {i : ℕ} {r : Spelt} → StoredAt l i r → (i < r.end) × (r.end ≤ length l)
+spot_on f = ((f Kind).forward, (f Kind).within)
 
 -- ---- a row's number
 
@@ -97,11 +94,10 @@ pub spot_moves :
     (l : List ℕ) (more left i : ℕ) (r : Spelt)
     → 0 < more
     → StoredAt l i r
-    → i < r.end
     → Moves step tell l (spot more left) i (signed r.stored ++ (separator left ∷ [])) (spot (rows_left more left) (left_after left)) r.end
-spot_moves l more left i r m f h =
+spot_moves l more left i r m f =
     let e : spot more left ≡ At (Cell (more - 1) left) 0 0 = simp (ne_eqb more 0 (omega arith)) in
-    rw e (rw (go (eqb left 0)) at (f h (Cell (more - 1) left)))
+    rw e (rw (go (eqb left 0)) at (f (Cell (more - 1) left)))
   where
     go : (t : Bool) → cond t (rows_on (more - 1)) (At (Cell (more - 1) (left - 1)) 0 0) ≡ spot (cond t (more - 1) more) (cond t 8 (left - 1))
     go true = refl
@@ -113,15 +109,14 @@ pub spot_spaced :
     → 0 < more
     → 0 < left
     → StoredAt l i r
-    → i < r.end
     → Moves step tell l (spot more left) i (signed r.stored ++ (separator left ∷ [])) (spot more (left - 1)) r.end
-spot_spaced l more left i r m z f h =
+spot_spaced l more left i r m z f =
     let e : spot (rows_left more left) (left_after left) ≡ spot more (left - 1) = simp (ne_eqb left 0 (omega arith)) in
-    rw e at (spot_moves l more left i r m f h)
+    rw e at (spot_moves l more left i r m f)
 
 -- the row count, which is not that of -1
 pub count_moves :
-    (l : List ℕ) (i : ℕ) (r : Spelt) → ¬ (r.stored ≡ 0) → StoredAt l i r → i < r.end → Moves step tell l (At Count 0 0) i [] (spot (r.stored - 1) 8) r.end
-count_moves l i r z f h =
+    (l : List ℕ) (i : ℕ) (r : Spelt) → ¬ (r.stored ≡ 0) → StoredAt l i r → Moves step tell l (At Count 0 0) i [] (spot (r.stored - 1) 8) r.end
+count_moves l i r z f =
     let e : reached Count r.stored ≡ spot (r.stored - 1) 8 = simp (ne_eqb r.stored 0 z) in
-    rw e at (f h Count)
+    rw e at (f Count)

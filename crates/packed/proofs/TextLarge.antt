@@ -12,6 +12,8 @@ use lib.ListN.{get_or, take, drop}
 use Rattle.packed.specs.declared.Part.{Part}
 use Rattle.packed.specs.declared.Part.TheVariants.{Fresh, Minus, Closed, Open}
 use Rattle.packed.specs.declared.Next.{Next}
+use Rattle.packed.specs.declared.Refusal.TheVariants as refusal
+use Rattle.packed.specs.Answers.{number}
 use Rattle.packed.specs.declared.Next.TheVariants.{More, Ended, Wrong}
 use Rattle.packed.specs.declared.Text.{Text}
 use Rattle.packed.specs.declared.Text.TheVariants.{Line, Row, Word, Last, End, Stop}
@@ -39,7 +41,7 @@ pub record Digit (p : Part) (b : ℕ) : Type 0 where
 abbrev Judged : Part → ℕ → Next → Type 0
 Judged p b (More q) = Unit
 Judged p b (Ended v) = Unit
-Judged p b (Wrong e) = (e ≡ 40) ⊎ ((e ≡ 42) × Digit p b)
+Judged p b (Wrong e) = (number e ≡ 40) ⊎ ((number e ≡ 42) × Digit p b)
 
 judged_digit : (p : Part) (b : ℕ) (x : Next) → (48 ≤ b → b ≤ 57 → Judged p b x) → Judged p b (digit b x)
 judged_digit p b x k =
@@ -249,13 +251,13 @@ no_digit x c h l m e =
     let k : (ltb c 45 || ltb 57 c) ≡ true = rw e h in
     false≢true (rw (le-ltb c 45 l, le-ltb 57 c (omega arith)) at k)
 
-word_digit : (rows at c : ℕ) → 45 ≤ c → c < 58 → step (Word rows at) c ≡ Stop 40
+word_digit : (rows at c : ℕ) → 45 ≤ c → c < 58 → step (Word rows at) c ≡ Stop refusal.Malformed
 word_digit rows at c l m = simp (ne_eqb c (get_or letters at 0) (no_digit (get_or letters at 0) c (letter_no_digit at) l m))
 
 pub separator_small : (left : ℕ) → separator left < 48
 separator_small left = by_test (λ (x : ℕ). x < 48) (eqb left 0) (λ _. lit< tt) (λ _. lit< tt)
 
-digit_large : (s n d : ℕ) → s < 48 → d < 10 → 2147483647 < n * 10 + d → next (Open n) s (48 + d) ≡ Wrong 42
+digit_large : (s n d : ℕ) → s < 48 → d < 10 → 2147483647 < n * 10 + d → next (Open n) s (48 + d) ≡ Wrong refusal.TooLarge
 digit_large s n d k h l =
     let e : 48 + d - 48 ≡ d = omega arith in
     simp (
@@ -294,8 +296,8 @@ module _ (n d : ℕ) (one : 1 ≤ n) (fits : n < 2147483648) (small : d < 10) (l
   number_large (Row rows left p) bytes w f e g = rw f (row_large rows left)
   number_large (Word rows at) bytes w f e g =
       let b = decimal_begins 9 n (omega (arith, fits)) (omega (arith, fits)) in
-      let k : after step (Word rows at) (decimal n) ≡ Stop 40 =
-      rw b.whole (ap (λ (s : Text). after step s b.tail) (word_digit rows at b.head b.high b.low) ∙ text_stopped 40 b.tail) in
+      let k : after step (Word rows at) (decimal n) ≡ Stop refusal.Malformed =
+      rw b.whole (ap (λ (s : Text). after step s b.tail) (word_digit rows at b.head b.high b.low) ∙ text_stopped refusal.Malformed b.tail) in
       absurd (omega (arith, sym (ap verdict k) ∙ g))
   number_large (Last rows left p) bytes w f e g = rw f (last_large rows left)
   number_large (End rows) bytes w f e g = absurd (omega (arith, e))

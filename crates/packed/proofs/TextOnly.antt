@@ -13,6 +13,7 @@ use lib.Seq.{slice, take-suc, drop-append-le, length-take-le}
 use Rattle.packed.specs.declared.Part.{Part}
 use Rattle.packed.specs.declared.Part.TheVariants.{Fresh, Minus, Closed, Open}
 use Rattle.packed.specs.declared.Next.{Next}
+use Rattle.packed.specs.Answers.{number}
 use Rattle.packed.specs.declared.Next.TheVariants.{More, Ended, Wrong}
 use Rattle.packed.specs.declared.Text.{Text}
 use Rattle.packed.specs.declared.Text.TheVariants.{Line, Row, Word, Last, End, Stop}
@@ -43,7 +44,7 @@ Ok (Open n) = (1 ≤ n) × (n < 2147483648)
 abbrev pub Good : Part → ℕ → ℕ → Next → Type 0
 Good p s b (More q) = Ok q × (partial p ++ (b ∷ []) ≡ partial q)
 Good p s b (Ended v) = (v ≤ 2147483648) × (partial p ≡ signed v) × (b ≡ s)
-Good p s b (Wrong n) = Refused n
+Good p s b (Wrong n) = Refused (number n)
 
 good_digit : (p : Part) (s b : ℕ) (n : Next) → (48 ≤ b → b ≤ 57 → Good p s b n) → Good p s b (digit b n)
 good_digit p s b n k =
@@ -167,7 +168,7 @@ Seen (Word n at) bytes =
     (r : Rows n) × (k : Bool) × (first k < at) × (at < past k) × (bytes ≡ joined line r.rows ++ slice (first k) at letters)
 Seen (Last n left p) bytes = (r : Rows n) × (k : Bool) × Begun (joined line r.rows ++ word k) (last_count k) left p bytes
 Seen (End n) bytes = (l : Listing) × Valid l × (text l ≡ bytes)
-Seen (Stop n) bytes = Refused n
+Seen (Stop n) bytes = Refused (number n)
 
 -- the line feed of a row
 pub row_ended :

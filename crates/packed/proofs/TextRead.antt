@@ -11,6 +11,7 @@ use lib.ListN.{length}
 use Rattle.packed.specs.declared.Part.{Part}
 use Rattle.packed.specs.declared.Part.TheVariants.{Fresh, Minus, Closed, Open}
 use Rattle.packed.specs.declared.Next.{Next}
+use Rattle.packed.specs.declared.Refusal.TheVariants.{Malformed}
 use Rattle.packed.specs.declared.Next.TheVariants.{More, Ended, Wrong}
 use Rattle.packed.specs.declared.Text.{Text}
 use Rattle.packed.specs.declared.Text.TheVariants.{Line, Row, Last, End}
@@ -184,7 +185,7 @@ fresh_tells s b = go (eqb b 45) (eqb b 48) (ltb b 48) (ltb 57 b)
   where
     go :
         (t u v w : Bool)
-        → ended (cond t (More Minus) (cond u (More (Closed 1)) (cond v (Wrong 40) (cond w (Wrong 40) (More (Open (b - 48))))))) ≡ []
+        → ended (cond t (More Minus) (cond u (More (Closed 1)) (cond v (Wrong Malformed) (cond w (Wrong Malformed) (More (Open (b - 48))))))) ≡ []
     go true u v w = refl
     go false true v w = refl
     go false false true w = refl

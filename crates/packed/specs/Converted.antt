@@ -1,7 +1,7 @@
 -- What a conversion answers, and the output after it: the reading's refusal; else 45 where the result does not fit; else the result stands
 -- at the front of the output. A refusal writes nothing.
 use Rattle.std.specs.Prelude.{cond, List, ◌++◌, ℕ, zero, suc, leb, length, drop}
-use Rattle.packed.specs.declared.Answer.{Answer}
+use Rattle.packed.specs.Answers.{Answer}
 use Rattle.packed.specs.Text.{text_verdict, text_packed}
 use Rattle.packed.specs.Packed.{packed_verdict, packed_text}
 

@@ -1,4 +1,5 @@
 pub mod Machine
+pub mod Answers
 pub mod Text
 pub mod Packed
 pub mod Converted

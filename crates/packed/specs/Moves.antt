@@ -30,10 +30,10 @@ pub record Counted {S : Type 0} (step : S → ℕ → S) (tell : S → ℕ → L
   pub count : min (size + length (told step tell s (drop i bytes))) (room + 1) ≡ min (length (told step tell start bytes)) (room + 1)
   pub most : size ≤ room + 1
 
--- from byte i on stand a number and the byte that ends it, if an end is told
+-- from byte i on stand a number and the byte s that ends it
 abbrev pub SpeltAt : List ℕ → ℕ → ℕ → Spelt → Type 0
 SpeltAt bytes i s r =
-    i < r.end → (r.stored ≤ 2147483648) × (r.end ≤ length bytes) × (drop i bytes ≡ (signed r.stored ++ (s ∷ [])) ++ drop r.end bytes)
+    (i < r.end) × (r.stored ≤ 2147483648) × (r.end ≤ length bytes) × (drop i bytes ≡ (signed r.stored ++ (s ∷ [])) ++ drop r.end bytes)
 
 -- the byte that ends a number which is to begin here, 0 where none is
 abbrev pub fresh_end : Part → ℕ → ℕ
@@ -48,7 +48,7 @@ number_end (Row rows left p) = fresh_end p left
 number_end (Word rows at) = 0
 number_end (Last rows left p) = fresh_end p left
 number_end (End rows) = 0
-number_end (Stop n) = 0
+number_end (Stop refusal) = 0
 
 -- after a whole number
 abbrev pub numbered : Text → ℕ → Text
@@ -57,7 +57,7 @@ numbered (Row rows left p) v = row_on rows left (Ended v)
 numbered (Word rows at) v = Word rows at
 numbered (Last rows left p) v = last_on rows left (Ended v)
 numbered (End rows) v = End rows
-numbered (Stop n) v = Stop n
+numbered (Stop refusal) v = Stop refusal
 
 -- where a row's number is to begin, which `left` others follow
 abbrev pub cell : ℕ → ℕ → Text
@@ -72,10 +72,10 @@ left_after left = cond (eqb left 0) 8 (left - 1)
 
 -- ---- a packed listing
 
--- from byte i on stands a whole number, at whatever place of the listing, if an end is told
+-- from byte i on stands a whole number, at whatever place of the listing
 abbrev pub StoredAt : List ℕ → ℕ → Spelt → Type 0
 StoredAt bytes i r =
-    i < r.end → (p : Place) → Moves packed.step packed.tell bytes (At p 0 0) i (packed.say p r.stored) (packed.reached p r.stored) r.end
+    (p : Place) → Moves packed.step packed.tell bytes (At p 0 0) i (packed.say p r.stored) (packed.reached p r.stored) r.end
 
 -- where a row's number is to begin, with so many rows to come, its own among them, and `left` numbers behind it; behind the rows, the kind
 abbrev pub spot : ℕ → ℕ → Packed

@@ -1,15 +1,15 @@
--- Reading a packed listing byte by byte. 42: the group that makes a stored number too large. 41: a last group of 0 that is not the only
--- one. 46: the end of a row count of -1, or of what is neither `audio` nor `refused`. 43: the end before the last number's. 44: a byte
--- after it.
-use Rattle.std.specs.Prelude.{cond, List, [], ◌∷◌, ◌++◌, ℕ, ◌+◌, ◌-◌, ◌*◌, ◌%◌, ◌^◌, min, eqb, ltb, leb, take, drop}
+-- Reading a packed listing byte by byte. TooLarge, 42: the group that makes a stored number too large. NeedlessGroup, 41: a last group of 0
+-- that is not the only one. WrongValue, 46: the end of a row count of -1, or of what is neither `audio` nor `refused`. Incomplete, 43: the
+-- end before the last number's. Trailing, 44: a byte after it.
+use Rattle.std.specs.Prelude.{cond, Option, Some, None, List, [], ◌∷◌, ◌++◌, ℕ, ◌+◌, ◌-◌, ◌*◌, ◌%◌, ◌^◌, min, eqb, ltb, leb, take, drop}
 use Rattle.packed.specs.declared.Group.{Group}
 use Rattle.packed.specs.declared.Group.TheVariants.{Going, Whole, Bad}
 use Rattle.packed.specs.declared.Place.{Place}
 use Rattle.packed.specs.declared.Place.TheVariants.{Count, Cell, Kind, Tail}
 use Rattle.packed.specs.declared.Packed.{Packed}
 use Rattle.packed.specs.declared.Packed.TheVariants.{At, Done, Halt}
-use Rattle.packed.specs.declared.Spoken.{Spoken}
-use Rattle.packed.specs.declared.Spoken.TheVariants.{Silence, Said}
+use Rattle.packed.specs.declared.Refusal.TheVariants.{NeedlessGroup, TooLarge, Trailing, WrongValue}
+use Rattle.packed.specs.Answers.{number}
 use Rattle.packed.specs.Machine.{after, told}
 use Rattle.listing.specs.Number.{signed, separator, letters}
 
@@ -23,9 +23,9 @@ group n k b =
     let m = n + b % 128 * weight k in
     cond (leb m 2147483648)
     (cond (ltb b 128)
-    (cond (eqb b 0) (cond (eqb k 0) (Whole m) (Bad 41)) (Whole m))
+    (cond (eqb b 0) (cond (eqb k 0) (Whole m) (Bad NeedlessGroup)) (Whole m))
     (Going m (min (k + 1) 5)))
-    (Bad 42)
+    (Bad TooLarge)
 
 -- ---- places: the row count; a row's number, with the rows after its row and the numbers after it in its row; the kind of the last
 -- line; a number of the last line, with those after it
@@ -36,20 +36,20 @@ rows_on rows = cond (eqb rows 0) (At Kind 0 0) (At (Cell (rows - 1) 8) 0 0)
 
 -- after a whole number v at a place
 abbrev pub reached : Place → ℕ → Packed
-reached Count v = cond (eqb v 0) (Halt 46) (rows_on (v - 1))
+reached Count v = cond (eqb v 0) (Halt WrongValue) (rows_on (v - 1))
 reached (Cell rows left) v = cond (eqb left 0) (rows_on rows) (At (Cell rows (left - 1)) 0 0)
-reached Kind v = cond (eqb v 1) (At (Tail 2) 0 0) (cond (eqb v 2) (At (Tail 4) 0 0) (Halt 46))
+reached Kind v = cond (eqb v 1) (At (Tail 2) 0 0) (cond (eqb v 2) (At (Tail 4) 0 0) (Halt WrongValue))
 reached (Tail left) v = cond (eqb left 0) Done (At (Tail (left - 1)) 0 0)
 
 abbrev pub grouping : Place → Group → Packed
 grouping p (Going n k) = At p n k
 grouping p (Whole v) = reached p v
-grouping p (Bad n) = Halt n
+grouping p (Bad refusal) = Halt refusal
 
 abbrev pub step : Packed → ℕ → Packed
 step (At p n k) b = grouping p (group n k b)
-step Done b = Halt 44
-step (Halt n) b = Halt n
+step Done b = Halt Trailing
+step (Halt refusal) b = Halt refusal
 
 -- ---- the text told on the way
 
@@ -62,24 +62,24 @@ say (Tail left) v = signed v ++ (separator left ∷ [])
 abbrev pub spoken : Place → Group → List ℕ
 spoken p (Going n k) = []
 spoken p (Whole v) = say p v
-spoken p (Bad n) = []
+spoken p (Bad refusal) = []
 
 -- a spoken number, as the code has it
-abbrev pub heard : Spoken → List ℕ
-heard Silence = []
-heard (Said p v) = say p v
+abbrev pub heard : Option (Place × ℕ) → List ℕ
+heard None = []
+heard (Some x) = say x.0 x.1
 
 abbrev pub tell : Packed → ℕ → List ℕ
 tell (At p n k) b = spoken p (group n k b)
 tell Done b = []
-tell (Halt n) b = []
+tell (Halt refusal) b = []
 
 -- ---- the whole
 
 abbrev pub verdict : Packed → ℕ
 verdict (At p n k) = 43
 verdict Done = 0
-verdict (Halt n) = n
+verdict (Halt refusal) = number refusal
 
 abbrev pub packed_verdict : List ℕ → ℕ
 packed_verdict bytes = verdict (after step (At Count 0 0) bytes)

@@ -1,6 +1,6 @@
 // The rows of a packed listing, number by number, while each stands whole. Only plain numbers go from one turn to the next; what is before and
 // after is read by `of_packed`.
-ghost use Rattle.std.specs.Prelude.{◌≡◌, ◌+◌, ◌^◌, ◌≤◌, ◌<◌, length, drop, get_or};
+ghost use Rattle.std.specs.Prelude.{◌≡◌, ◌+◌, ◌^◌, ◌≤◌, ◌<◌, length, drop, get_or, IfSome};
 ghost use Rattle.std.proofs.lemmas.List.Edits.{sets};
 ghost use Rattle.listing.proofs.Left.{Left};
 ghost use Rattle.packed.specs.declared.Packed.TheVariants.{At};
@@ -12,68 +12,56 @@ ghost use Rattle.packed.specs.Packed.{step, tell};
 use super::{Front, Spelt, numbers, of_packed};
 
 // A number of several groups.
-fn several(packed: &[u8], at: usize) -> Spelt
-    ensures { StoredAt packed.now at result }
+fn several(packed: &[u8], at: usize) -> Option<Spelt>
+    ensures { IfSome result (StoredAt packed.now at) }
 {
     let mut n = 0;
     let mut k = 0;
-    let mut i = at;
-    while i < packed.len() {
+    for i in at..packed.len() {
         let b = packed[i];
-        let m = n + (b % 128) as usize * of_packed::weight_of(k);
-        if 2147483648 < m {
-            return Spelt { stored: 0, end: 0 };
-        }
-        if b == 0 {
-            return Spelt { stored: 0, end: 0 };
+        n += (b % 128) as usize * of_packed::weight_of(k);
+        if 2147483648 < n || b == 0 {
+            return None;
         }
         if b < 128 {
-            return Spelt {
-                stored: m,
+            return Some(Spelt {
+                stored: n,
                 end: i + 1,
-            };
+            });
         }
-        n = m;
         k = of_packed::one_more(k);
-        i += 1;
     }
-    Spelt { stored: 0, end: 0 }
+    None
 }
 
 // A number of two groups or more.
-fn longer(packed: &[u8], at: usize) -> Spelt
+fn longer(packed: &[u8], at: usize) -> Option<Spelt>
     requires { (at < length packed.now) × (128 ≤ get_or packed.now at 0) }
-    ensures { StoredAt packed.now at result }
+    ensures { IfSome result (StoredAt packed.now at) }
 {
-    if packed.len() - at < 2 {
-        return Spelt { stored: 0, end: 0 };
-    }
-    let b = packed[at + 1];
+    let b = *packed.get(at + 1)?;
     if b == 0 {
-        return Spelt { stored: 0, end: 0 };
+        return None;
     }
     if b < 128 {
-        return Spelt {
+        return Some(Spelt {
             stored: (packed[at] % 128) as usize + b as usize * 128,
             end: at + 2,
-        };
+        });
     }
     several(packed, at)
 }
 
 // The number at a place: most are of one group.
-pub(crate) fn number_at(packed: &[u8], at: usize) -> Spelt
-    ensures { StoredAt packed.now at result }
+pub(crate) fn number_at(packed: &[u8], at: usize) -> Option<Spelt>
+    ensures { IfSome result (StoredAt packed.now at) }
 {
-    if packed.len() <= at {
-        return Spelt { stored: 0, end: 0 };
-    }
-    let b = packed[at];
+    let b = *packed.get(at)?;
     if b < 128 {
-        return Spelt {
+        return Some(Spelt {
             stored: b as usize,
             end: at + 1,
-        };
+        });
     }
     longer(packed, at)
 }
@@ -83,26 +71,23 @@ fn spaced_size(packed: &[u8], more: usize, size: usize, at: usize, room: usize) 
     requires { (room < 2 ^ 63) × (0 < more) × Counted step tell packed.now room (At Count 0 0) (spot more 8) size at }
     ensures { Counted step tell packed.now room (At Count 0 0) (spot result.rows result.left) result.told result.end × (result.rows ≡ more) × (at ≤ result.end) }
 {
-    let mut left = 8;
     let mut sum = size;
     let mut i = at;
-    while 0 < left {
-        let n = number_at(packed, i);
-        if n.end <= i {
+    for left in (1..9).rev() {
+        let Some(n) = number_at(packed, i) else {
             return Front {
                 rows: more,
                 left,
                 told: sum,
                 end: i,
             };
-        }
+        };
         sum = numbers::capped(sum, listing::ended_size(n.stored), room);
-        left -= 1;
         i = n.end;
     }
     Front {
         rows: more,
-        left,
+        left: 0,
         told: sum,
         end: i,
     }
@@ -113,24 +98,21 @@ pub(crate) fn measure(packed: &[u8], count: usize, at: usize, room: usize) -> Fr
     requires { (room < 2 ^ 63) × Counted step tell packed.now room (At Count 0 0) (spot count 8) 0 at }
     ensures { Counted step tell packed.now room (At Count 0 0) (spot result.rows result.left) result.told result.end }
 {
-    let mut more = count;
     let mut size = 0;
     let mut i = at;
-    while 0 < more {
-        let front = spaced_size(packed, more, size, i, room);
+    for after in (0..count).rev() {
+        let front = spaced_size(packed, after + 1, size, i, room);
         if 0 < front.left {
             return front;
         }
-        let n = number_at(packed, front.end);
-        if n.end <= front.end {
+        let Some(n) = number_at(packed, front.end) else {
             return front;
-        }
+        };
         size = numbers::capped(front.told, listing::ended_size(n.stored), room);
-        more -= 1;
         i = n.end;
     }
     Front {
-        rows: more,
+        rows: 0,
         left: 8,
         told: size,
         end: i,
@@ -142,26 +124,23 @@ fn put_spaced(packed: &[u8], out: &mut [u8], more: usize, at: usize, from: usize
     requires { (at + length (told step tell (spot more 8) (drop from packed.now)) ≤ length out.old) × (0 < more) × (from ≤ length packed.now) }
     ensures { Left out.new result.told (told step tell (spot result.rows result.left) (drop result.end packed.now)) (sets out.old at (told step tell (spot more 8) (drop from packed.now))) (at + length (told step tell (spot more 8) (drop from packed.now))) (length out.old) × (result.end ≤ length packed.now) × (result.rows ≡ more) × (from ≤ result.end) }
 {
-    let mut left = 8;
     let mut to = at;
     let mut i = from;
-    while 0 < left {
-        let n = number_at(packed, i);
-        if n.end <= i {
+    for left in (1..9).rev() {
+        let Some(n) = number_at(packed, i) else {
             return Front {
                 rows: more,
                 left,
                 told: to,
                 end: i,
             };
-        }
+        };
         to = listing::put_ended(out, to, n.stored, left);
-        left -= 1;
         i = n.end;
     }
     Front {
         rows: more,
-        left,
+        left: 0,
         told: to,
         end: i,
     }
@@ -172,24 +151,21 @@ pub(crate) fn write(packed: &[u8], out: &mut [u8], count: usize, at: usize) -> F
     requires { (length (told step tell (spot count 8) (drop at packed.now)) ≤ length out.old) × (at ≤ length packed.now) }
     ensures { Left out.new result.told (told step tell (spot result.rows result.left) (drop result.end packed.now)) (sets out.old 0 (told step tell (spot count 8) (drop at packed.now))) (0 + length (told step tell (spot count 8) (drop at packed.now))) (length out.old) × (result.end ≤ length packed.now) }
 {
-    let mut more = count;
     let mut to = 0;
     let mut i = at;
-    while 0 < more {
-        let front = put_spaced(packed, out, more, to, i);
+    for after in (0..count).rev() {
+        let front = put_spaced(packed, out, after + 1, to, i);
         if 0 < front.left {
             return front;
         }
-        let n = number_at(packed, front.end);
-        if n.end <= front.end {
+        let Some(n) = number_at(packed, front.end) else {
             return front;
-        }
+        };
         to = listing::put_ended(out, front.told, n.stored, 0);
-        more -= 1;
         i = n.end;
     }
     Front {
-        rows: more,
+        rows: 0,
         left: 8,
         told: to,
         end: i,

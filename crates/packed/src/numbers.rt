@@ -17,7 +17,7 @@ pub(crate) fn capped(n: usize, more: usize, room: usize) -> usize
 
 // How many groups a number takes.
 pub(crate) fn groups_size(v: usize) -> usize
-    ensures { result ≡ length (groups v) }
+    ensures { (result ≡ length (groups v)) × (result ≤ 10) }
 {
     let mut rest = v;
     let mut n = 1;

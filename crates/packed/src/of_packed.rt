@@ -1,12 +1,13 @@
 // Reading a packed listing.
-ghost use Rattle.std.specs.Prelude.{◌≡◌, ◌+◌, ◌-◌, ◌^◌, ◌≤◌, ◌<◌, min, length, drop};
+ghost use Rattle.std.specs.Prelude.{◌≡◌, ◌+◌, ◌-◌, ◌^◌, ◌≤◌, ◌<◌, min, length, drop, MatchResult};
 ghost use Rattle.std.proofs.lemmas.List.Edits.{sets};
 ghost use Rattle.listing.proofs.Left.{Left};
+ghost use Rattle.packed.specs.Answers.{number};
 ghost use Rattle.packed.specs.Machine.{after, told};
 ghost use Rattle.packed.specs.Moves.{Counted, spot};
 ghost use Rattle.packed.specs.Packed.{weight, group, rows_on, reached, grouping, step, say, spoken, tell, verdict, heard};
 
-use super::{Group, Packed, PackedFront, PackedSeen, Place, Spoken, cells, numbers};
+use super::{Group, Packed, PackedFront, PackedSeen, Place, Refusal, cells, numbers};
 
 // What a group counts for: 128 to the number of groups before it, which is 5 from the sixth on.
 pub(crate) fn weight_of(k: u8) -> usize
@@ -22,13 +23,11 @@ pub(crate) fn weight_of(k: u8) -> usize
     }
 }
 
+// The groups after one more: 5 stands for all more than that.
 pub(crate) fn one_more(k: u8) -> u8
     ensures { result ≡ min (k + 1) 5 }
 {
-    if k < 5 {
-        return k + 1;
-    }
-    5
+    k.min(4) + 1
 }
 
 // What a byte makes of a number n so far, of k groups.
@@ -37,18 +36,15 @@ fn group_of(n: u32, k: u8, b: u8) -> Group
 {
     let m = n as usize + (b % 128) as usize * weight_of(k);
     if 2147483648 < m {
-        return Group::Bad(42);
+        return Group::Bad(Refusal::TooLarge);
     }
     if 128 <= b {
         return Group::Going(m as u32, one_more(k));
     }
-    if b != 0 {
-        return Group::Whole(m);
+    if b == 0 && k != 0 {
+        return Group::Bad(Refusal::NeedlessGroup);
     }
-    if k == 0 {
-        return Group::Whole(m);
-    }
-    Group::Bad(41)
+    Group::Whole(m)
 }
 
 fn rows_on(rows: usize) -> Packed
@@ -60,54 +56,20 @@ fn rows_on(rows: usize) -> Packed
     Packed::At(Place::Cell(rows - 1, 8), 0, 0)
 }
 
-fn counted_on(v: usize) -> Packed
-    ensures { result ≡ reached Place.Count v }
-{
-    if v == 0 {
-        return Packed::Halt(46);
-    }
-    rows_on(v - 1)
-}
-
-fn cell_on(rows: usize, left: usize) -> Packed
-    ensures { result ≡ reached (Place.Cell rows left) 0 }
-{
-    if left == 0 {
-        return rows_on(rows);
-    }
-    Packed::At(Place::Cell(rows, left - 1), 0, 0)
-}
-
-fn kind_on(v: usize) -> Packed
-    ensures { result ≡ reached Place.Kind v }
-{
-    if v == 1 {
-        return Packed::At(Place::Tail(2), 0, 0);
-    }
-    if v == 2 {
-        return Packed::At(Place::Tail(4), 0, 0);
-    }
-    Packed::Halt(46)
-}
-
-fn tail_on(left: usize) -> Packed
-    ensures { result ≡ reached (Place.Tail left) 0 }
-{
-    if left == 0 {
-        return Packed::Done;
-    }
-    Packed::At(Place::Tail(left - 1), 0, 0)
-}
-
 // After a whole number at a place.
 fn reached_of(p: Place, v: usize) -> Packed
     ensures { result ≡ reached p v }
 {
     match p {
-        Place::Count => counted_on(v),
-        Place::Cell(rows, left) => cell_on(rows, left),
-        Place::Kind => kind_on(v),
-        Place::Tail(left) => tail_on(left),
+        Place::Count if v == 0 => Packed::Halt(Refusal::WrongValue),
+        Place::Count => rows_on(v - 1),
+        Place::Cell(rows, 0) => rows_on(rows),
+        Place::Cell(rows, left) => Packed::At(Place::Cell(rows, left - 1), 0, 0),
+        Place::Kind if v == 1 => Packed::At(Place::Tail(2), 0, 0),
+        Place::Kind if v == 2 => Packed::At(Place::Tail(4), 0, 0),
+        Place::Kind => Packed::Halt(Refusal::WrongValue),
+        Place::Tail(0) => Packed::Done,
+        Place::Tail(left) => Packed::At(Place::Tail(left - 1), 0, 0),
     }
 }
 
@@ -117,7 +79,7 @@ fn grouping_of(p: Place, g: Group) -> Packed
     match g {
         Group::Going(n, k) => Packed::At(p, n, k),
         Group::Whole(v) => reached_of(p, v),
-        Group::Bad(e) => Packed::Halt(e),
+        Group::Bad(refusal) => Packed::Halt(refusal),
     }
 }
 
@@ -126,28 +88,27 @@ fn step_on(s: Packed, b: u8) -> Packed
 {
     match s {
         Packed::At(p, n, k) => grouping_of(p, group_of(n, k, b)),
-        Packed::Done => Packed::Halt(44),
-        Packed::Halt(e) => Packed::Halt(e),
+        Packed::Done => Packed::Halt(Refusal::Trailing),
+        Packed::Halt(refusal) => Packed::Halt(refusal),
     }
 }
 
-fn said_of(p: Place, g: Group) -> Spoken
+fn said_of(p: Place, g: Group) -> Option<(Place, usize)>
     ensures { heard result ≡ spoken p g }
 {
     match g {
-        Group::Going(_, _) => Spoken::Silence,
-        Group::Whole(v) => Spoken::Said(p, v),
-        Group::Bad(_) => Spoken::Silence,
+        Group::Whole(v) => Some((p, v)),
+        _ => None,
     }
 }
 
-fn heard_of(s: Packed, b: u8) -> Spoken
+// A whole number that a byte ends, stored plus one, with its place.
+fn heard_of(s: Packed, b: u8) -> Option<(Place, usize)>
     ensures { heard result ≡ tell s b }
 {
     match s {
         Packed::At(p, n, k) => said_of(p, group_of(n, k, b)),
-        Packed::Done => Spoken::Silence,
-        Packed::Halt(_) => Spoken::Silence,
+        _ => None,
     }
 }
 
@@ -157,14 +118,9 @@ fn say_size(p: Place, v: usize) -> usize
 {
     match p {
         Place::Count => 0,
-        Place::Cell(_, _) => listing::ended_size(v),
-        Place::Kind => {
-            if v == 1 {
-                return 6;
-            }
-            8
-        }
-        Place::Tail(_) => listing::ended_size(v),
+        Place::Cell(_, _) | Place::Tail(_) => listing::ended_size(v),
+        Place::Kind if v == 1 => 6,
+        Place::Kind => 8,
     }
 }
 
@@ -185,9 +141,8 @@ fn put_said(out: &mut [u8], at: usize, p: Place, v: usize) -> usize
 {
     match p {
         Place::Count => at,
-        Place::Cell(_, left) => listing::put_ended(out, at, v, left),
+        Place::Cell(_, left) | Place::Tail(left) => listing::put_ended(out, at, v, left),
         Place::Kind => put_kind(out, at, v),
-        Place::Tail(left) => listing::put_ended(out, at, v, left),
     }
 }
 
@@ -195,8 +150,8 @@ fn tell_size(s: Packed, b: u8) -> usize
     ensures { result ≡ length (tell s b) }
 {
     match heard_of(s, b) {
-        Spoken::Silence => 0,
-        Spoken::Said(p, v) => say_size(p, v),
+        Some((p, v)) => say_size(p, v),
+        None => 0,
     }
 }
 
@@ -205,18 +160,19 @@ fn put_told(out: &mut [u8], at: usize, s: Packed, b: u8) -> usize
     ensures { (result ≡ at + length (tell s b)) × (out.new ≡ sets out.old at (tell s b)) }
 {
     match heard_of(s, b) {
-        Spoken::Silence => at,
-        Spoken::Said(p, v) => put_said(out, at, p, v),
+        Some((p, v)) => put_said(out, at, p, v),
+        None => at,
     }
 }
 
-pub(crate) fn verdict_of(s: Packed) -> usize
-    ensures { result ≡ verdict s }
+// Whether a packed listing was read to its end.
+pub(crate) fn whole(s: Packed) -> Result<(), Refusal>
+    ensures { MatchResult result (λ _. verdict s ≡ 0) (λ refusal. verdict s ≡ number refusal) }
 {
     match s {
-        Packed::At(_, _, _) => 43,
-        Packed::Done => 0,
-        Packed::Halt(e) => e,
+        Packed::At(_, _, _) => Err(Refusal::Incomplete),
+        Packed::Done => Ok(()),
+        Packed::Halt(refusal) => Err(refusal),
     }
 }
 
@@ -235,26 +191,20 @@ fn front_size(packed: &[u8], room: usize) -> PackedFront
     requires { room < 2 ^ 63 }
     ensures { Counted step tell packed.now room (Packed.At Place.Count 0 0) result.next result.told result.end }
 {
-    let n = cells::number_at(packed, 0);
-    if n.end == 0 {
-        return PackedFront {
+    match cells::number_at(packed, 0) {
+        Some(n) if 0 < n.stored => {
+            let front = cells::measure(packed, n.stored - 1, n.end, room);
+            PackedFront {
+                next: spot_of(front.rows, front.left),
+                told: front.told,
+                end: front.end,
+            }
+        }
+        _ => PackedFront {
             next: Packed::At(Place::Count, 0, 0),
             told: 0,
             end: 0,
-        };
-    }
-    if n.stored == 0 {
-        return PackedFront {
-            next: Packed::At(Place::Count, 0, 0),
-            told: 0,
-            end: 0,
-        };
-    }
-    let front = cells::measure(packed, n.stored - 1, n.end, room);
-    PackedFront {
-        next: spot_of(front.rows, front.left),
-        told: front.told,
-        end: front.end,
+        },
     }
 }
 
@@ -262,26 +212,20 @@ fn put_front(packed: &[u8], out: &mut [u8]) -> PackedFront
     requires { length (told step tell (Packed.At Place.Count 0 0) packed.now) ≤ length out.old }
     ensures { Left out.new result.told (told step tell result.next (drop result.end packed.now)) (sets out.old 0 (told step tell (Packed.At Place.Count 0 0) packed.now)) (0 + length (told step tell (Packed.At Place.Count 0 0) packed.now)) (length out.old) × (result.end ≤ length packed.now) }
 {
-    let n = cells::number_at(packed, 0);
-    if n.end == 0 {
-        return PackedFront {
+    match cells::number_at(packed, 0) {
+        Some(n) if 0 < n.stored => {
+            let front = cells::write(packed, out, n.stored - 1, n.end);
+            PackedFront {
+                next: spot_of(front.rows, front.left),
+                told: front.told,
+                end: front.end,
+            }
+        }
+        _ => PackedFront {
             next: Packed::At(Place::Count, 0, 0),
             told: 0,
             end: 0,
-        };
-    }
-    if n.stored == 0 {
-        return PackedFront {
-            next: Packed::At(Place::Count, 0, 0),
-            told: 0,
-            end: 0,
-        };
-    }
-    let front = cells::write(packed, out, n.stored - 1, n.end);
-    PackedFront {
-        next: spot_of(front.rows, front.left),
-        told: front.told,
-        end: front.end,
+        },
     }
 }
 
@@ -293,12 +237,9 @@ pub(crate) fn measure(packed: &[u8], room: usize) -> PackedSeen
     let front = front_size(packed, room);
     let mut s = front.next;
     let mut size = front.told;
-    let mut i = front.end;
-    while i < packed.len() {
-        let b = packed[i];
-        size = numbers::capped(size, tell_size(s, b), room);
-        s = step_on(s, b);
-        i += 1;
+    for b in &packed[front.end..] {
+        size = numbers::capped(size, tell_size(s, *b), room);
+        s = step_on(s, *b);
     }
     PackedSeen { end: s, size }
 }
@@ -311,11 +252,8 @@ pub(crate) fn write(packed: &[u8], out: &mut [u8])
     let front = put_front(packed, out);
     let mut s = front.next;
     let mut to = front.told;
-    let mut i = front.end;
-    while i < packed.len() {
-        let b = packed[i];
-        to = put_told(out, to, s, b);
-        s = step_on(s, b);
-        i += 1;
+    for b in &packed[front.end..] {
+        to = put_told(out, to, s, *b);
+        s = step_on(s, *b);
     }
 }

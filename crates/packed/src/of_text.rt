@@ -1,48 +1,41 @@
 // Reading a listing's text.
-ghost use Rattle.std.specs.Prelude.{◌≡◌, ◌+◌, ◌^◌, ◌≤◌, ◌<◌, min, length};
+ghost use Rattle.std.specs.Prelude.{◌≡◌, ◌+◌, ◌^◌, ◌≤◌, ◌<◌, min, length, option_to_list, MatchResult};
 ghost use Rattle.std.proofs.lemmas.List.Edits.{sets};
 ghost use Rattle.listing.specs.Listing.{grouped};
-ghost use Rattle.packed.specs.Moves.{Moves, cell};
+ghost use Rattle.packed.specs.Answers.{number};
+ghost use Rattle.packed.specs.Moves.{cell};
 ghost use Rattle.packed.specs.Machine.{after, told};
-ghost use Rattle.packed.specs.Text.{next, row_end, lettered, row_on, last_on, step, yields, tell, verdict, count, listed, ended};
+ghost use Rattle.packed.specs.Text.{next, row_end, lettered, row_on, last_on, step, yields, tell, verdict, count, ended};
 
-use super::{Next, Part, Text, TextSeen, Turn, Yield, numbers, rows};
+use super::{Next, Part, Refusal, Text, TextSeen, numbers, rows};
 
+// What a first byte makes of a number.
 fn fresh_next(sep: u8, b: u8) -> Next
     ensures { result ≡ next Part.Fresh sep b }
 {
-    if b == 45 {
-        return Next::More(Part::Minus);
+    match b {
+        b'-' => Next::More(Part::Minus),
+        b'0' => Next::More(Part::Closed(1)),
+        b'1'..=b'9' => Next::More(Part::Open((b - b'0') as u32)),
+        _ => Next::Wrong(Refusal::Malformed),
     }
-    if b == 48 {
-        return Next::More(Part::Closed(1));
-    }
-    if b < 48 {
-        return Next::Wrong(40);
-    }
-    if 57 < b {
-        return Next::Wrong(40);
-    }
-    Next::More(Part::Open((b - 48) as u32))
 }
 
+// What a byte makes of digits.
 fn open_next(n: u32, sep: u8, b: u8) -> Next
     ensures { result ≡ next (Part.Open n) sep b }
 {
     if b == sep {
         return Next::Ended(n as usize + 1);
     }
-    if b < 48 {
-        return Next::Wrong(40);
+    if !b.is_ascii_digit() {
+        return Next::Wrong(Refusal::Malformed);
     }
-    if 57 < b {
-        return Next::Wrong(40);
-    }
-    let m = n as usize * 10 + (b - 48) as usize;
+    let m = n as usize * 10 + (b - b'0') as usize;
     if m < 2147483648 {
         return Next::More(Part::Open(m as u32));
     }
-    Next::Wrong(42)
+    Next::Wrong(Refusal::TooLarge)
 }
 
 // What a byte makes of a number that the separator ends.
@@ -51,19 +44,10 @@ fn next_of(p: Part, sep: u8, b: u8) -> Next
 {
     match p {
         Part::Fresh => fresh_next(sep, b),
-        Part::Minus => {
-            if b == 49 {
-                return Next::More(Part::Closed(0));
-            }
-            Next::Wrong(40)
-        }
-        Part::Closed(v) => {
-            if b == sep {
-                return Next::Ended(v);
-            }
-            Next::Wrong(40)
-        }
+        Part::Minus if b == b'1' => Next::More(Part::Closed(0)),
+        Part::Closed(v) if b == sep => Next::Ended(v),
         Part::Open(n) => open_next(n, sep, b),
+        _ => Next::Wrong(Refusal::Malformed),
     }
 }
 
@@ -73,7 +57,7 @@ fn row_end(rows: usize) -> Text
     if rows < 2147483648 {
         return Text::Line(rows + 1);
     }
-    Text::Stop(42)
+    Text::Stop(Refusal::TooLarge)
 }
 
 fn row_on(rows: usize, left: usize, n: Next) -> Text
@@ -81,13 +65,9 @@ fn row_on(rows: usize, left: usize, n: Next) -> Text
 {
     match n {
         Next::More(p) => Text::Row(rows, left, p),
-        Next::Ended(_) => {
-            if left == 0 {
-                return row_end(rows);
-            }
-            Text::Row(rows, left - 1, Part::Fresh)
-        }
-        Next::Wrong(e) => Text::Stop(e),
+        Next::Ended(_) if left == 0 => row_end(rows),
+        Next::Ended(_) => Text::Row(rows, left - 1, Part::Fresh),
+        Next::Wrong(refusal) => Text::Stop(refusal),
     }
 }
 
@@ -96,13 +76,9 @@ fn last_on(rows: usize, left: usize, n: Next) -> Text
 {
     match n {
         Next::More(p) => Text::Last(rows, left, p),
-        Next::Ended(_) => {
-            if left == 0 {
-                return Text::End(rows);
-            }
-            Text::Last(rows, left - 1, Part::Fresh)
-        }
-        Next::Wrong(e) => Text::Stop(e),
+        Next::Ended(_) if left == 0 => Text::End(rows),
+        Next::Ended(_) => Text::Last(rows, left - 1, Part::Fresh),
+        Next::Wrong(refusal) => Text::Stop(refusal),
     }
 }
 
@@ -121,13 +97,11 @@ fn letter_on(rows: usize, at: usize) -> Text
 fn line_on(rows: usize, b: u8) -> Text
     ensures { result ≡ step (Text.Line rows) b }
 {
-    if b == 97 {
-        return Text::Word(rows, 1);
+    match b {
+        b'a' => Text::Word(rows, 1),
+        b'r' => Text::Word(rows, 7),
+        _ => row_on(rows, 8, fresh_next(b' ', b)),
     }
-    if b == 114 {
-        return Text::Word(rows, 7);
-    }
-    row_on(rows, 8, fresh_next(32, b))
 }
 
 fn step_on(s: Text, b: u8) -> Text
@@ -140,108 +114,77 @@ fn step_on(s: Text, b: u8) -> Text
             if b == listing::letter(at) {
                 return letter_on(rows, at);
             }
-            Text::Stop(40)
+            Text::Stop(Refusal::Malformed)
         }
         Text::Last(rows, left, p) => {
             last_on(rows, left, next_of(p, listing::separator_of(left), b))
         }
-        Text::End(_) => Text::Stop(44),
-        Text::Stop(e) => Text::Stop(e),
+        Text::End(_) => Text::Stop(Refusal::Trailing),
+        Text::Stop(refusal) => Text::Stop(refusal),
     }
 }
 
-fn ended_of(n: Next) -> Yield
-    ensures { listed result ≡ ended n }
+fn ended_of(n: Next) -> Option<usize>
+    ensures { option_to_list result ≡ ended n }
 {
     match n {
-        Next::More(_) => Yield::Nothing,
-        Next::Ended(v) => Yield::Number(v),
-        Next::Wrong(_) => Yield::Nothing,
+        Next::Ended(v) => Some(v),
+        _ => None,
     }
 }
 
-fn line_yield(b: u8) -> Yield
-    ensures { listed result ≡ yields (Text.Line 1) b }
+fn line_yield(b: u8) -> Option<usize>
+    ensures { option_to_list result ≡ yields (Text.Line 1) b }
 {
-    if b == 97 {
-        return Yield::Number(1);
+    match b {
+        b'a' => Some(1),
+        b'r' => Some(2),
+        _ => None,
     }
-    if b == 114 {
-        return Yield::Number(2);
-    }
-    Yield::Nothing
 }
 
-fn yield_of(s: Text, b: u8) -> Yield
-    ensures { listed result ≡ yields s b }
+// A number that a byte ends, stored plus one.
+fn yield_of(s: Text, b: u8) -> Option<usize>
+    ensures { option_to_list result ≡ yields s b }
 {
     match s {
         Text::Line(_) => line_yield(b),
-        Text::Row(_, left, p) => ended_of(next_of(p, listing::separator_of(left), b)),
-        Text::Word(_, _) => Yield::Nothing,
-        Text::Last(_, left, p) => ended_of(next_of(p, listing::separator_of(left), b)),
-        Text::End(_) => Yield::Nothing,
-        Text::Stop(_) => Yield::Nothing,
+        Text::Row(_, left, p) | Text::Last(_, left, p) => {
+            ended_of(next_of(p, listing::separator_of(left), b))
+        }
+        _ => None,
     }
 }
 
-// How many bytes a number tells.
-fn yield_size(y: Yield) -> usize
-    ensures { result ≡ length (grouped (listed y)) }
+// How many bytes are told at a byte.
+fn tell_size(s: Text, b: u8) -> usize
+    ensures { (result ≡ length (tell s b)) × (result ≤ 10) }
 {
-    match y {
-        Yield::Nothing => 0,
-        Yield::Number(v) => numbers::groups_size(v),
+    match yield_of(s, b) {
+        Some(v) => numbers::groups_size(v),
+        None => 0,
     }
 }
 
-// What a number tells, from a place on; the place after it.
-fn put_yield(out: &mut [u8], at: usize, y: Yield) -> usize
-    requires { at + length (grouped (listed y)) ≤ length out.old }
-    ensures { (result ≡ at + length (grouped (listed y))) × (out.new ≡ sets out.old at (grouped (listed y))) }
+// What is told at a byte, from a place on; the place after it.
+fn put_told(out: &mut [u8], at: usize, s: Text, b: u8) -> usize
+    requires { at + length (tell s b) ≤ length out.old }
+    ensures { (result ≡ at + length (tell s b)) × (out.new ≡ sets out.old at (tell s b)) }
 {
-    match y {
-        Yield::Nothing => at,
-        Yield::Number(v) => numbers::put_groups(out, at, v),
+    match yield_of(s, b) {
+        Some(v) => numbers::put_groups(out, at, v),
+        None => at,
     }
 }
 
-// Goes on by a byte.
-fn turn(text: &[u8], s: Text, i: usize) -> Turn
-    requires { i < length text.now }
-    ensures { Moves step tell text.now s i (grouped (listed result.told)) result.next result.end }
-{
-    let b = text[i];
-    Turn {
-        next: step_on(s, b),
-        told: yield_of(s, b),
-        end: i + 1,
-    }
-}
-
-pub(crate) fn verdict_of(s: Text) -> usize
-    ensures { result ≡ verdict s }
+// The row count of a text that was read to its end, stored plus one.
+pub(crate) fn whole(s: Text) -> Result<usize, Refusal>
+    ensures { MatchResult result (λ rows. (verdict s ≡ 0) × (count s ≡ rows)) (λ refusal. verdict s ≡ number refusal) }
 {
     match s {
-        Text::End(_) => 0,
-        Text::Stop(e) => e,
-        Text::Line(_) => 43,
-        Text::Row(_, _, _) => 43,
-        Text::Word(_, _) => 43,
-        Text::Last(_, _, _) => 43,
-    }
-}
-
-pub(crate) fn count_of(s: Text) -> usize
-    ensures { result ≡ count s }
-{
-    match s {
-        Text::End(rows) => rows,
-        Text::Stop(_) => 0,
-        Text::Line(_) => 0,
-        Text::Row(_, _, _) => 0,
-        Text::Word(_, _) => 0,
-        Text::Last(_, _, _) => 0,
+        Text::End(rows) => Ok(rows),
+        Text::Stop(refusal) => Err(refusal),
+        _ => Err(Refusal::Incomplete),
     }
 }
 
@@ -263,13 +206,9 @@ pub(crate) fn measure(listing: &[u8], room: usize) -> TextSeen
     let front = rows::measure(listing, room);
     let mut s = cell_of(front.rows, front.left);
     let mut size = front.told;
-    let mut i = front.end;
-    while i < listing.len() {
-        let t = turn(listing, s, i);
-        let told = t.told;
-        size = numbers::capped(size, yield_size(told), room);
-        s = t.next;
-        i = t.end;
+    for b in &listing[front.end..] {
+        size = numbers::capped(size, tell_size(s, *b), room);
+        s = step_on(s, *b);
     }
     TextSeen { end: s, size }
 }
@@ -282,12 +221,8 @@ pub(crate) fn write(listing: &[u8], out: &mut [u8], at: usize)
     let front = rows::write(listing, out, at);
     let mut s = cell_of(front.rows, front.left);
     let mut to = front.told;
-    let mut i = front.end;
-    while i < listing.len() {
-        let t = turn(listing, s, i);
-        let told = t.told;
-        to = put_yield(out, to, told);
-        s = t.next;
-        i = t.end;
+    for b in &listing[front.end..] {
+        to = put_told(out, to, s, *b);
+        s = step_on(s, *b);
     }
 }

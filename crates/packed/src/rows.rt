@@ -13,34 +13,31 @@ use super::{Front, at_once, numbers};
 // The count of no rows, stored plus one.
 const NO_ROWS: usize = 1;
 
+// The count of as many rows as a listing may have, stored plus one.
+const MOST_ROWS: usize = 2147483648;
+
 // The numbers of a row that a space ends: how far they go, and how many bytes are told by then.
 fn spaced_size(text: &[u8], rows: usize, size: usize, at: usize, room: usize) -> Front
     requires { (room < 2 ^ 63) × (rows < 2147483648) × Counted step tell text.now room (Line 1) (cell rows 8) size at }
     ensures { Counted step tell text.now room (Line 1) (cell result.rows result.left) result.told result.end × (result.rows ≡ rows) × (at ≤ result.end) }
 {
-    let mut left = 8;
     let mut sum = size;
     let mut i = at;
-    while 0 < left {
-        let mut n = at_once::short_at(text, i, 32);
-        if n.end <= i {
-            n = at_once::number_at(text, i, 32);
-        }
-        if n.end <= i {
+    for left in (1..9).rev() {
+        let Some(n) = at_once::spelt_at(text, i, b' ') else {
             return Front {
                 rows,
                 left,
                 told: sum,
                 end: i,
             };
-        }
+        };
         sum = numbers::capped(sum, numbers::groups_size(n.stored), room);
-        left -= 1;
         i = n.end;
     }
     Front {
         rows,
-        left,
+        left: 0,
         told: sum,
         end: i,
     }
@@ -51,27 +48,21 @@ pub(crate) fn measure(text: &[u8], room: usize) -> Front
     requires { room < 2 ^ 63 }
     ensures { Counted step tell text.now room (Line 1) (cell result.rows result.left) result.told result.end }
 {
-    let mut rows = NO_ROWS;
     let mut size = 0;
     let mut i = 0;
-    while rows < 2147483648 {
+    for rows in NO_ROWS..MOST_ROWS {
         let front = spaced_size(text, rows, size, i, room);
         if 0 < front.left {
             return front;
         }
-        let mut n = at_once::short_at(text, front.end, 10);
-        if n.end <= front.end {
-            n = at_once::number_at(text, front.end, 10);
-        }
-        if n.end <= front.end {
+        let Some(n) = at_once::spelt_at(text, front.end, b'\n') else {
             return front;
-        }
+        };
         size = numbers::capped(front.told, numbers::groups_size(n.stored), room);
-        rows += 1;
         i = n.end;
     }
     Front {
-        rows,
+        rows: MOST_ROWS,
         left: 8,
         told: size,
         end: i,
@@ -83,29 +74,23 @@ fn put_spaced(text: &[u8], out: &mut [u8], rows: usize, at: usize, from: usize) 
     requires { (at + length (told step tell (cell rows 8) (drop from text.now)) ≤ length out.old) × (rows < 2147483648) × (from ≤ length text.now) }
     ensures { Left out.new result.told (told step tell (cell result.rows result.left) (drop result.end text.now)) (sets out.old at (told step tell (cell rows 8) (drop from text.now))) (at + length (told step tell (cell rows 8) (drop from text.now))) (length out.old) × (result.end ≤ length text.now) × (result.rows ≡ rows) × (from ≤ result.end) }
 {
-    let mut left = 8;
     let mut to = at;
     let mut i = from;
-    while 0 < left {
-        let mut n = at_once::short_at(text, i, 32);
-        if n.end <= i {
-            n = at_once::number_at(text, i, 32);
-        }
-        if n.end <= i {
+    for left in (1..9).rev() {
+        let Some(n) = at_once::spelt_at(text, i, b' ') else {
             return Front {
                 rows,
                 left,
                 told: to,
                 end: i,
             };
-        }
+        };
         to = numbers::put_groups(out, to, n.stored);
-        left -= 1;
         i = n.end;
     }
     Front {
         rows,
-        left,
+        left: 0,
         told: to,
         end: i,
     }
@@ -116,27 +101,21 @@ pub(crate) fn write(text: &[u8], out: &mut [u8], at: usize) -> Front
     requires { at + length (told step tell (Line 1) text.now) ≤ length out.old }
     ensures { Left out.new result.told (told step tell (cell result.rows result.left) (drop result.end text.now)) (sets out.old at (told step tell (Line 1) text.now)) (at + length (told step tell (Line 1) text.now)) (length out.old) × (result.end ≤ length text.now) }
 {
-    let mut rows = NO_ROWS;
     let mut to = at;
     let mut i = 0;
-    while rows < 2147483648 {
+    for rows in NO_ROWS..MOST_ROWS {
         let front = put_spaced(text, out, rows, to, i);
         if 0 < front.left {
             return front;
         }
-        let mut n = at_once::short_at(text, front.end, 10);
-        if n.end <= front.end {
-            n = at_once::number_at(text, front.end, 10);
-        }
-        if n.end <= front.end {
+        let Some(n) = at_once::spelt_at(text, front.end, b'\n') else {
             return front;
-        }
+        };
         to = numbers::put_groups(out, front.told, n.stored);
-        rows += 1;
         i = n.end;
     }
     Front {
-        rows,
+        rows: MOST_ROWS,
         left: 8,
         told: to,
         end: i,

@@ -1,0 +1,16 @@
+-- What is left to write is what the rest of the text tells.
+use Rattle.std.proofs.Common.{◌+◌, ◌-◌, ◌≤◌, length, drop}
+use Rattle.std.proofs.lemmas.List.Edits.{sets}
+use Rattle.listing.proofs.Left.{Left}
+use Rattle.packed.specs.Machine.{told}
+use Rattle.packed.specs.Moves.{cell}
+use Rattle.packed.specs.Text.{step, tell}
+use Rattle.packed.proofs.rows.put_spaced.Given as goal
+
+abbrev pub invariant-loop-left : goal.invariant-loop-left
+invariant-loop-left l =
+    Left l.out l.to (told step tell (cell l.rows (l.left - 1)) (drop l.i l.text)) (sets l.fn.out l.at (told step tell (cell l.rows 8) (drop l.from l.text))) (l.at + length (told step tell (cell l.rows 8) (drop l.from l.text))) (length l.fn.out)
+    × (l.i ≤ length l.text)
+    × (1 ≤ l.left)
+    × (l.left ≤ 9)
+    × (l.from ≤ l.i)

@@ -1,6 +1,6 @@
 -- An answer about a conversion as two numbers: the refusal, the bytes written.
 use Rattle.std.specs.Prelude.{List, [], ◌∷◌, ℕ}
-use Rattle.packed.specs.declared.Answer.{Answer}
+use Rattle.packed.specs.Answers.{Answer}
 
 abbrev pub packing_numbers : Answer → List ℕ
 packing_numbers a = a.refusal ∷ a.written ∷ []

@@ -1,15 +1,21 @@
 // Packed listings, both ways.
 ghost use Rattle.std.specs.Prelude.{◌≡◌};
+ghost use Rattle.packed.specs.Answers.{answer};
 ghost use Rattle.packed.specs.Converted.{packing, unpacking};
 ghost use Rattle.ferrysprig.specs.Packings.{packing_numbers, packing_told};
 
+use packed::Refusal;
+
 pub const PACKING_ANSWER: usize = 2;
 
-// The numbers of an answer about a conversion. They count bytes, so they are as wide as places are.
-fn packing_numbers(a: packed::Answer) -> [usize; PACKING_ANSWER]
-    ensures { result ≡ packing_numbers a }
+// The refusal's number, 0 for none, and how many bytes were written. They count bytes, so they are as wide as places are.
+fn packing_numbers(converted: Result<usize, Refusal>) -> [usize; PACKING_ANSWER]
+    ensures { result ≡ packing_numbers (answer converted) }
 {
-    [a.refusal, a.written]
+    match converted {
+        Ok(written) => [0, written],
+        Err(refusal) => [refusal as usize, 0],
+    }
 }
 
 // Packs a listing's text into the front of `out`, and writes the answer's numbers.

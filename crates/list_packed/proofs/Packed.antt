@@ -11,8 +11,11 @@ use lib.Seq.{take-append_seam}
 use Rattle.ac3.specs.Promise.{answer_to}
 use Rattle.listing.specs.Number.{groups}
 use Rattle.listing.specs.Listing.{Listing, Valid, Each, Line, last_count, joined, grouped, kind, text, packed}
-use Rattle.packed.specs.declared.Answer.{Answer}
+use Rattle.std.proofs.Common.{Result, Ok}
+use Rattle.packed.specs.declared.Refusal.{Refusal}
+use Rattle.packed.specs.Answers.{answer}
 use Rattle.packed.specs.Converted.{packing}
+use Rattle.packed.proofs.Answers.{answer_ok}
 use Rattle.packed.proofs.Groups.{groups_few}
 use Rattle.packed.proofs.TextRead.{text_read}
 use Rattle.lister.specs.Listed.{listing, rows_lent, frame_call}
@@ -52,17 +55,18 @@ packing_is : (l : Listing) (out : List ℕ) → Valid l → length (packed l) �
 packing_is l out valid h = let read = text_read l valid in simp (read.0, read.1, le-leb (length (packed l)) (length out) h)
 
 pub packed_printed :
-    (frame out : List ℕ) {size : ℕ} {written : List ℕ} {r : Answer} {left : List ℕ}
+    (frame out : List ℕ) {size : ℕ} {written : List ℕ} {r : Result ℕ Refusal} {left : List ℕ}
     → most_text rows_lent ≤ length out
     → Printed frame size written
-    → (r, left) ≡ packing (take size written) out
-    → (take r.written left ≡ packed (listing (frame_call frame))) × (r.written ≤ length left)
+    → (answer r, left) ≡ packing (take size written) out
+    → (n : ℕ) × (r ≡ Ok n) × (take n left ≡ packed (listing (frame_call frame))) × (n ≤ length left)
 packed_printed frame out {size} {written} {r} {left} h printed e =
     let l = listing (frame_call frame) in
     let fits : length (packed l) ≤ length out = omega (arith, packed_few l printed.valid, length_rows (answer_to (frame_call frame)).0.rows (answer_to (frame_call frame)).1, few frame) in
     let all = e ∙ ap (λ t. packing t out) printed.bytes ∙ packing_is l out printed.valid fits in
-    let counted : r.written ≡ length (packed l) = ap (λ x. x.0.written) all in
     let bytes : left ≡ packed l ++ drop (length (packed l)) out = ap (λ x. x.1) all in (
-      rw (counted, bytes) (take-append_seam (packed l) (drop (length (packed l)) out)),
-      omega (arith, counted, ap length bytes, length-append (packed l) (drop (length (packed l)) out)),
+      length (packed l),
+      answer_ok r (ap (λ x. x.0) all),
+      rw bytes (take-append_seam (packed l) (drop (length (packed l)) out)),
+      omega (arith, ap length bytes, length-append (packed l) (drop (length (packed l)) out)),
     )

@@ -32,8 +32,7 @@ fn listed_packed(frame: &[u8], out: &mut [u8]) -> usize
 {
     let mut text = no_text();
     let size = lister::listed(frame, &mut text);
-    let packed = packed::pack(&text[..size], out);
-    packed.written
+    packed::pack(&text[..size], out).unwrap()
 }
 
 fn main(rt: HostRuntime) -> io::Result<()> {

@@ -7,12 +7,30 @@ use native.Mathlib.Omega.{arith}
 use borrow.Author.Tests.{le-leb, lt-leb}
 use lib.ListN.{length, length-append}
 use lib.Seq.{sets, sets-eq}
-use Rattle.packed.specs.Answers.{Answer}
+use Rattle.std.proofs.Common.{Result, Ok, Err, ap}
+use Rattle.packed.specs.declared.Refusal.{Refusal}
+use Rattle.packed.specs.declared.Refusal.TheVariants.{Malformed, NeedlessGroup, TooLarge, Incomplete, Trailing, NoRoom, WrongValue}
+use Rattle.packed.specs.Answers.{Answer, answer, number}
 use Rattle.packed.specs.Converted.{converted}
 use Rattle.listing.proofs.Left.{sets_append}
 
 abbrev told : ℕ → ℕ → Answer
 told r n = record { refusal = r; written = n }
+
+-- every refusal has a number
+numbered : (refusal : Refusal) → 40 ≤ number refusal
+numbered Malformed = omega arith
+numbered NeedlessGroup = omega arith
+numbered TooLarge = omega arith
+numbered Incomplete = omega arith
+numbered Trailing = omega arith
+numbered NoRoom = omega arith
+numbered WrongValue = omega arith
+
+-- so what is answered with none was converted
+pub answer_ok : (r : Result ℕ Refusal) {n : ℕ} → answer r ≡ told 0 n → r ≡ Ok n
+answer_ok (Ok written) e = ap Ok (ap (λ (a : Answer). a.written) e)
+answer_ok (Err refusal) e = absurd (omega (arith, numbered refusal, ap (λ (a : Answer). a.refusal) e))
 
 module _ (v : ℕ) (w out : List ℕ) where
   -- the reading refused

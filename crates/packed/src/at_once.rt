@@ -43,6 +43,7 @@ fn digits(listing: &[u8], at: usize, first: usize, sep: u8) -> Option<Spelt>
 }
 
 // The number at a place that a byte ends.
+#[inline(never)]
 fn number_at(listing: &[u8], at: usize, sep: u8) -> Option<Spelt>
     ensures { IfSome result (SpeltAt listing.now at sep) }
 {
@@ -61,7 +62,8 @@ fn number_at(listing: &[u8], at: usize, sep: u8) -> Option<Spelt>
 }
 
 // The same if the number has one digit or two or is -1, as most are.
-#[inline]
+#[inline(always)]
+#[tactic(auto, using(crate::proofs::AtOnce::spelt_digit, crate::proofs::AtOnce::spelt_two))]
 fn short_at(listing: &[u8], at: usize, sep: u8) -> Option<Spelt>
     requires { at ≤ length listing.now }
     ensures { IfSome result (SpeltAt listing.now at sep) }
@@ -97,7 +99,7 @@ fn short_at(listing: &[u8], at: usize, sep: u8) -> Option<Spelt>
 }
 
 // The number at a place that a byte ends. Short numbers are read where this is called, without a call.
-#[inline]
+#[inline(always)]
 pub(crate) fn spelt_at(listing: &[u8], at: usize, sep: u8) -> Option<Spelt>
     requires { at ≤ length listing.now }
     ensures { IfSome result (SpeltAt listing.now at sep) }

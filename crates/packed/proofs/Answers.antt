@@ -1,10 +1,10 @@
--- A conversion's three answers. Assumes nothing.
-use mathlib.Core.Path.{◌≡◌, refl, sym, ◌∙◌}
+-- A conversion's answers. Assumes nothing.
+use mathlib.Core.Path.{◌≡◌, sym, ◌∙◌}
 use mathlib.Core.List.{List, ◌++◌}
-use Prim.Native.Nat.{ℕ, zero, suc, ◌+◌, ◌≤◌, ◌<◌, min}
+use Prim.Native.Nat.{ℕ, ◌+◌, ◌≤◌, min}
 use native.Mathlib.Nat.{zero-add}
 use native.Mathlib.Omega.{arith}
-use borrow.Author.Tests.{le-leb, lt-leb}
+use borrow.Author.Tests.{le-leb}
 use lib.ListN.{length, length-append}
 use lib.Seq.{sets, sets-eq}
 use Rattle.std.proofs.Common.{Result, Ok, Err, ap}
@@ -33,27 +33,12 @@ answer_ok (Ok written) e = ap Ok (ap (λ (a : Answer). a.written) e)
 answer_ok (Err refusal) e = absurd (omega (arith, numbered refusal, ap (λ (a : Answer). a.refusal) e))
 
 module _ (v : ℕ) (w out : List ℕ) where
-  -- the reading refused
-  pub refuses : {r : ℕ} → r ≡ v → (r ≡ 0 → ⊥) → (told r 0, out) ≡ converted v w out
-  refuses p q = rw p (go v (rw p at q))
-    where
-      go : (n : ℕ) → (n ≡ 0 → ⊥) → (told n 0, out) ≡ converted n w out
-      go zero q = absurd (q refl)
-      go (suc n) q = refl
-
-  -- the result has no room
-  pub overflows : 0 ≡ v → length out < length w → (told 45 0, out) ≡ converted v w out
-  overflows p h = rw (← p, lt-leb _ _ h)
-
   -- the result is written
   pub converts : {n : ℕ} {left : List ℕ} → 0 ≡ v → length w ≤ length out → n ≡ length w → left ≡ sets out 0 w → (told 0 n, left) ≡ converted v w out
   converts p h q r = rw (← p, le-leb _ _ h, q, r, sets-eq w out 0 (omega (arith, h)), zero-add)
 
 -- the size of a result of two parts, counted to one past the room
 module _ (a b : List ℕ) {room n more size : ℕ} (p : n ≡ length a) (q : more ≡ min (length b) (room + 1)) (r : size ≡ min (n + more) (room + 1)) where
-  pub over : room < size → room < length (a ++ b)
-  over h = omega (arith, length-append a b)
-
   pub exact : size ≤ room → size ≡ length (a ++ b)
   exact h = omega (arith, length-append a b)
 

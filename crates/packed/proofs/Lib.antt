@@ -1,5 +1,4 @@
 pub mod Groups
-pub mod Told
 pub mod Passes
 pub mod Few
 pub mod Answers

@@ -7,3 +7,4 @@ pub mod Examples
 pub mod Exact
 pub mod Refusals
 pub mod Moves
+pub mod Tellers

@@ -1,6 +1,6 @@
 -- How the code goes over a text, by one byte or by a whole number at a time. No part of the definition: it says what a turn of the code is to
 -- the definition's reader.
-use Rattle.std.specs.Prelude.{◌≡◌, cond, List, [], ◌∷◌, ◌++◌, ℕ, ◌+◌, ◌-◌, ◌≤◌, ◌<◌, min, eqb, length, drop}
+use Rattle.std.specs.Prelude.{◌≡◌, cond, List, [], ◌∷◌, ◌++◌, ℕ, ◌+◌, ◌-◌, ◌≤◌, ◌<◌, eqb, length, drop}
 use Rattle.listing.specs.Number.{signed, separator}
 use Rattle.packed.specs.declared.Part.{Part}
 use Rattle.packed.specs.declared.Part.TheVariants.{Fresh, Minus, Closed, Open}
@@ -22,13 +22,6 @@ pub record Moves {S : Type 0} (step : S → ℕ → S) (tell : S → ℕ → Lis
   pub within : i' ≤ length bytes
   pub state : after step s (drop i bytes) ≡ after step s' (drop i' bytes)
   pub tells : told step tell s (drop i bytes) ≡ e ++ told step tell s' (drop i' bytes)
-
--- from the state s and byte i on, the reading ends as from the start, and what it tells and the size so far come to the same
-pub record Counted {S : Type 0} (step : S → ℕ → S) (tell : S → ℕ → List ℕ) (bytes : List ℕ) (room : ℕ) (start s : S) (size i : ℕ) : Type 0 where
-  pub within : i ≤ length bytes
-  pub state : after step s (drop i bytes) ≡ after step start bytes
-  pub count : min (size + length (told step tell s (drop i bytes))) (room + 1) ≡ min (length (told step tell start bytes)) (room + 1)
-  pub most : size ≤ room + 1
 
 -- from byte i on stand a number and the byte s that ends it
 abbrev pub SpeltAt : List ℕ → ℕ → ℕ → Spelt → Type 0

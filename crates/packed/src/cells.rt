@@ -1,15 +1,13 @@
 // The rows of a packed listing, number by number, while each stands whole. Only plain numbers go from one turn to the next; what is before and
 // after is read by `of_packed`.
-ghost use Rattle.std.specs.Prelude.{◌≡◌, ◌+◌, ◌^◌, ◌≤◌, ◌<◌, length, drop, get_or, IfSome};
-ghost use Rattle.std.proofs.lemmas.List.Edits.{sets};
-ghost use Rattle.listing.proofs.Left.{Left};
-ghost use Rattle.packed.specs.declared.Packed.TheVariants.{At};
-ghost use Rattle.packed.specs.declared.Place.TheVariants.{Count};
+ghost use Rattle.std.specs.Prelude.{◌≡◌, ◌≤◌, ◌<◌, length, drop, get_or, IfSome};
 ghost use Rattle.packed.specs.Machine.{told};
-ghost use Rattle.packed.specs.Moves.{Counted, StoredAt, spot};
+ghost use Rattle.packed.specs.Moves.{StoredAt, spot};
 ghost use Rattle.packed.specs.Packed.{step, tell};
+ghost use Rattle.packed.specs.Tellers.{Reads};
 
-use super::{Front, Spelt, numbers, of_packed};
+use super::tellers::Teller;
+use super::{Front, Spelt, of_packed};
 
 // A number of several groups.
 fn several(packed: &[u8], at: usize) -> Option<Spelt>
@@ -66,63 +64,10 @@ pub(crate) fn number_at(packed: &[u8], at: usize) -> Option<Spelt>
     longer(packed, at)
 }
 
-// The numbers of a row but its last: how far they go, and how many bytes are told by then.
-fn spaced_size(packed: &[u8], more: usize, size: usize, at: usize, room: usize) -> Front
-    requires { (room < 2 ^ 63) × (0 < more) × Counted step tell packed.now room (At Count 0 0) (spot more 8) size at }
-    ensures { Counted step tell packed.now room (At Count 0 0) (spot result.rows result.left) result.told result.end × (result.rows ≡ more) × (at ≤ result.end) }
-{
-    let mut sum = size;
-    let mut i = at;
-    for left in (1..9).rev() {
-        let Some(n) = number_at(packed, i) else {
-            return Front {
-                rows: more,
-                left,
-                told: sum,
-                end: i,
-            };
-        };
-        sum = numbers::capped(sum, listing::ended_size(n.stored), room);
-        i = n.end;
-    }
-    Front {
-        rows: more,
-        left: 0,
-        told: sum,
-        end: i,
-    }
-}
-
-// How far the rows go, and how many bytes they tell, where so many rows begin at a place.
-pub(crate) fn measure(packed: &[u8], count: usize, at: usize, room: usize) -> Front
-    requires { (room < 2 ^ 63) × Counted step tell packed.now room (At Count 0 0) (spot count 8) 0 at }
-    ensures { Counted step tell packed.now room (At Count 0 0) (spot result.rows result.left) result.told result.end }
-{
-    let mut size = 0;
-    let mut i = at;
-    for after in (0..count).rev() {
-        let front = spaced_size(packed, after + 1, size, i, room);
-        if 0 < front.left {
-            return front;
-        }
-        let Some(n) = number_at(packed, front.end) else {
-            return front;
-        };
-        size = numbers::capped(front.told, listing::ended_size(n.stored), room);
-        i = n.end;
-    }
-    Front {
-        rows: 0,
-        left: 8,
-        told: size,
-        end: i,
-    }
-}
-
-// The numbers of a row but its last, with a space after each, from a place on.
-fn put_spaced(packed: &[u8], out: &mut [u8], more: usize, at: usize, from: usize) -> Front
-    requires { (at + length (told step tell (spot more 8) (drop from packed.now)) ≤ length out.old) × (0 < more) × (from ≤ length packed.now) }
-    ensures { Left out.new result.told (told step tell (spot result.rows result.left) (drop result.end packed.now)) (sets out.old at (told step tell (spot more 8) (drop from packed.now))) (at + length (told step tell (spot more 8) (drop from packed.now))) (length out.old) × (result.end ≤ length packed.now) × (result.rows ≡ more) × (from ≤ result.end) }
+// The numbers of a row but its last, from a place on.
+fn spaced<T: Teller>(packed: &[u8], out: &mut [u8], more: usize, at: usize, from: usize) -> Front
+    requires { T.room out.old at (told step tell (spot more 8) (drop from packed.now)) × (0 < more) × (from ≤ length packed.now) }
+    ensures { Reads step tell T.tells (spot more 8) (drop from packed.now) out.old at (spot result.rows result.left) (drop result.end packed.now) out.new result.told × (result.end ≤ length packed.now) × (result.rows ≡ more) }
 {
     let mut to = at;
     let mut i = from;
@@ -135,7 +80,7 @@ fn put_spaced(packed: &[u8], out: &mut [u8], more: usize, at: usize, from: usize
                 end: i,
             };
         };
-        to = listing::put_ended(out, to, n.stored, left);
+        to = T::text(out, to, n.stored, left);
         i = n.end;
     }
     Front {
@@ -146,22 +91,28 @@ fn put_spaced(packed: &[u8], out: &mut [u8], more: usize, at: usize, from: usize
     }
 }
 
-// What the rows tell, from the front on.
-pub(crate) fn write(packed: &[u8], out: &mut [u8], count: usize, at: usize) -> Front
-    requires { (length (told step tell (spot count 8) (drop at packed.now)) ≤ length out.old) × (at ≤ length packed.now) }
-    ensures { Left out.new result.told (told step tell (spot result.rows result.left) (drop result.end packed.now)) (sets out.old 0 (told step tell (spot count 8) (drop at packed.now))) (0 + length (told step tell (spot count 8) (drop at packed.now))) (length out.old) × (result.end ≤ length packed.now) }
+// Tells so many rows from a place on; how far they go.
+pub(crate) fn read<T: Teller>(
+    packed: &[u8],
+    out: &mut [u8],
+    count: usize,
+    at: usize,
+    from: usize,
+) -> Front
+    requires { T.room out.old at (told step tell (spot count 8) (drop from packed.now)) × (from ≤ length packed.now) }
+    ensures { Reads step tell T.tells (spot count 8) (drop from packed.now) out.old at (spot result.rows result.left) (drop result.end packed.now) out.new result.told × (result.end ≤ length packed.now) }
 {
-    let mut to = 0;
-    let mut i = at;
+    let mut to = at;
+    let mut i = from;
     for after in (0..count).rev() {
-        let front = put_spaced(packed, out, after + 1, to, i);
+        let front = spaced::<T>(packed, out, after + 1, to, i);
         if 0 < front.left {
             return front;
         }
         let Some(n) = number_at(packed, front.end) else {
             return front;
         };
-        to = listing::put_ended(out, front.told, n.stored, 0);
+        to = T::text(out, front.told, n.stored, 0);
         i = n.end;
     }
     Front {

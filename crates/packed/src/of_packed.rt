@@ -1,13 +1,13 @@
 // Reading a packed listing.
-ghost use Rattle.std.specs.Prelude.{◌≡◌, ◌+◌, ◌-◌, ◌^◌, ◌≤◌, ◌<◌, min, length, drop, MatchResult};
-ghost use Rattle.std.proofs.lemmas.List.Edits.{sets};
-ghost use Rattle.listing.proofs.Left.{Left};
+ghost use Rattle.std.specs.Prelude.{◌≡◌, ◌+◌, ◌-◌, ◌≤◌, min, length, drop, MatchResult};
 ghost use Rattle.packed.specs.Answers.{number};
 ghost use Rattle.packed.specs.Machine.{after, told};
-ghost use Rattle.packed.specs.Moves.{Counted, spot};
+ghost use Rattle.packed.specs.Moves.{spot};
 ghost use Rattle.packed.specs.Packed.{weight, group, rows_on, reached, grouping, step, say, spoken, tell, verdict, heard};
+ghost use Rattle.packed.specs.Tellers.{Reads};
 
-use super::{Group, Packed, PackedFront, PackedSeen, Place, Refusal, cells, numbers};
+use super::tellers::Teller;
+use super::{Group, Packed, PackedFront, PackedSeen, Place, Refusal, cells};
 
 // What a group counts for: 128 to the number of groups before it, which is 5 from the sixth on.
 pub(crate) fn weight_of(k: u8) -> usize
@@ -112,55 +112,26 @@ fn heard_of(s: Packed, b: u8) -> Option<(Place, usize)>
     }
 }
 
-// How many bytes of text a whole number at a place tells.
-fn say_size(p: Place, v: usize) -> usize
-    ensures { result ≡ length (say p v) }
-{
-    match p {
-        Place::Count => 0,
-        Place::Cell(_, _) | Place::Tail(_) => listing::ended_size(v),
-        Place::Kind if v == 1 => 6,
-        Place::Kind => 8,
-    }
-}
-
-fn put_kind(out: &mut [u8], at: usize, v: usize) -> usize
-    requires { at + length (say Place.Kind v) ≤ length out.old }
-    ensures { (result ≡ at + length (say Place.Kind v)) × (out.new ≡ sets out.old at (say Place.Kind v)) }
-{
-    if v == 1 {
-        return listing::put_word(out, at, 0, 6);
-    }
-    listing::put_word(out, at, 6, 14)
-}
-
-// A whole number at a place, as text, from a place on; the place after it.
-fn put_said(out: &mut [u8], at: usize, p: Place, v: usize) -> usize
-    requires { at + length (say p v) ≤ length out.old }
-    ensures { (result ≡ at + length (say p v)) × (out.new ≡ sets out.old at (say p v)) }
+// Tells a whole number at a place.
+fn say<T: Teller>(out: &mut [u8], at: usize, p: Place, v: usize) -> usize
+    requires { T.room out.old at (say p v) }
+    ensures { T.tells out.old at (say p v) out.new result }
 {
     match p {
         Place::Count => at,
-        Place::Cell(_, left) | Place::Tail(left) => listing::put_ended(out, at, v, left),
-        Place::Kind => put_kind(out, at, v),
+        Place::Cell(_, left) | Place::Tail(left) => T::text(out, at, v, left),
+        Place::Kind if v == 1 => T::word(out, at, 0, 6),
+        Place::Kind => T::word(out, at, 6, 14),
     }
 }
 
-fn tell_size(s: Packed, b: u8) -> usize
-    ensures { result ≡ length (tell s b) }
+// Tells what a byte tells.
+fn tell_on<T: Teller>(out: &mut [u8], at: usize, s: Packed, b: u8) -> usize
+    requires { T.room out.old at (tell s b) }
+    ensures { T.tells out.old at (tell s b) out.new result }
 {
     match heard_of(s, b) {
-        Some((p, v)) => say_size(p, v),
-        None => 0,
-    }
-}
-
-fn put_told(out: &mut [u8], at: usize, s: Packed, b: u8) -> usize
-    requires { at + length (tell s b) ≤ length out.old }
-    ensures { (result ≡ at + length (tell s b)) × (out.new ≡ sets out.old at (tell s b)) }
-{
-    match heard_of(s, b) {
-        Some((p, v)) => put_said(out, at, p, v),
+        Some((p, v)) => say::<T>(out, at, p, v),
         None => at,
     }
 }
@@ -186,14 +157,14 @@ fn spot_of(more: usize, left: usize) -> Packed
     Packed::At(Place::Cell(more - 1, left), 0, 0)
 }
 
-// The row count and the rows, as far as they stand whole.
-fn front_size(packed: &[u8], room: usize) -> PackedFront
-    requires { room < 2 ^ 63 }
-    ensures { Counted step tell packed.now room (Packed.At Place.Count 0 0) result.next result.told result.end }
+// Tells the row count and the rows, as far as they stand whole.
+fn front<T: Teller>(packed: &[u8], out: &mut [u8], at: usize) -> PackedFront
+    requires { T.room out.old at (told step tell (Packed.At Place.Count 0 0) packed.now) }
+    ensures { Reads step tell T.tells (Packed.At Place.Count 0 0) packed.now out.old at result.next (drop result.end packed.now) out.new result.told × (result.end ≤ length packed.now) }
 {
     match cells::number_at(packed, 0) {
         Some(n) if 0 < n.stored => {
-            let front = cells::measure(packed, n.stored - 1, n.end, room);
+            let front = cells::read::<T>(packed, out, n.stored - 1, at, n.end);
             PackedFront {
                 next: spot_of(front.rows, front.left),
                 told: front.told,
@@ -202,58 +173,23 @@ fn front_size(packed: &[u8], room: usize) -> PackedFront
         }
         _ => PackedFront {
             next: Packed::At(Place::Count, 0, 0),
-            told: 0,
+            told: at,
             end: 0,
         },
     }
 }
 
-fn put_front(packed: &[u8], out: &mut [u8]) -> PackedFront
-    requires { length (told step tell (Packed.At Place.Count 0 0) packed.now) ≤ length out.old }
-    ensures { Left out.new result.told (told step tell result.next (drop result.end packed.now)) (sets out.old 0 (told step tell (Packed.At Place.Count 0 0) packed.now)) (0 + length (told step tell (Packed.At Place.Count 0 0) packed.now)) (length out.old) × (result.end ≤ length packed.now) }
+// Tells a packed listing; where its reading ends.
+pub(crate) fn read<T: Teller>(packed: &[u8], out: &mut [u8], at: usize) -> PackedSeen
+    requires { T.room out.old at (told step tell (Packed.At Place.Count 0 0) packed.now) }
+    ensures { (result.end ≡ after step (Packed.At Place.Count 0 0) packed.now) × T.tells out.old at (told step tell (Packed.At Place.Count 0 0) packed.now) out.new result.told }
 {
-    match cells::number_at(packed, 0) {
-        Some(n) if 0 < n.stored => {
-            let front = cells::write(packed, out, n.stored - 1, n.end);
-            PackedFront {
-                next: spot_of(front.rows, front.left),
-                told: front.told,
-                end: front.end,
-            }
-        }
-        _ => PackedFront {
-            next: Packed::At(Place::Count, 0, 0),
-            told: 0,
-            end: 0,
-        },
-    }
-}
-
-// Where the reading of a packed listing ends, and how many bytes of text it tells.
-pub(crate) fn measure(packed: &[u8], room: usize) -> PackedSeen
-    requires { room < 2 ^ 63 }
-    ensures { (result.end ≡ after step (Packed.At Place.Count 0 0) packed.now) × (result.size ≡ min (length (told step tell (Packed.At Place.Count 0 0) packed.now)) (room + 1)) }
-{
-    let front = front_size(packed, room);
-    let mut s = front.next;
-    let mut size = front.told;
-    for b in &packed[front.end..] {
-        size = numbers::capped(size, tell_size(s, *b), room);
-        s = step_on(s, *b);
-    }
-    PackedSeen { end: s, size }
-}
-
-// What a packed listing tells, from the front on.
-pub(crate) fn write(packed: &[u8], out: &mut [u8])
-    requires { length (told step tell (Packed.At Place.Count 0 0) packed.now) ≤ length out.old }
-    ensures { out.new ≡ sets out.old 0 (told step tell (Packed.At Place.Count 0 0) packed.now) }
-{
-    let front = put_front(packed, out);
+    let front = front::<T>(packed, out, at);
     let mut s = front.next;
     let mut to = front.told;
     for b in &packed[front.end..] {
-        to = put_told(out, to, s, *b);
+        to = tell_on::<T>(out, to, s, *b);
         s = step_on(s, *b);
     }
+    PackedSeen { end: s, told: to }
 }

@@ -1,13 +1,12 @@
 // Reading a listing's text.
-ghost use Rattle.std.specs.Prelude.{◌≡◌, ◌+◌, ◌^◌, ◌≤◌, ◌<◌, min, length, option_to_list, MatchResult};
-ghost use Rattle.std.proofs.lemmas.List.Edits.{sets};
-ghost use Rattle.listing.specs.Listing.{grouped};
+ghost use Rattle.std.specs.Prelude.{◌≡◌, option_to_list, MatchResult};
 ghost use Rattle.packed.specs.Answers.{number};
 ghost use Rattle.packed.specs.Moves.{cell};
 ghost use Rattle.packed.specs.Machine.{after, told};
 ghost use Rattle.packed.specs.Text.{next, row_end, lettered, row_on, last_on, step, yields, tell, verdict, count, ended};
 
-use super::{Next, Part, Refusal, Text, TextSeen, numbers, rows};
+use super::tellers::Teller;
+use super::{Next, Part, Refusal, Text, TextSeen, rows};
 
 // What a first byte makes of a number.
 fn fresh_next(sep: u8, b: u8) -> Next
@@ -156,23 +155,13 @@ fn yield_of(s: Text, b: u8) -> Option<usize>
     }
 }
 
-// How many bytes are told at a byte.
-fn tell_size(s: Text, b: u8) -> usize
-    ensures { (result ≡ length (tell s b)) × (result ≤ 10) }
+// Tells what a byte tells.
+fn tell_on<T: Teller>(out: &mut [u8], at: usize, s: Text, b: u8) -> usize
+    requires { T.room out.old at (tell s b) }
+    ensures { T.tells out.old at (tell s b) out.new result }
 {
     match yield_of(s, b) {
-        Some(v) => numbers::groups_size(v),
-        None => 0,
-    }
-}
-
-// What is told at a byte, from a place on; the place after it.
-fn put_told(out: &mut [u8], at: usize, s: Text, b: u8) -> usize
-    requires { at + length (tell s b) ≤ length out.old }
-    ensures { (result ≡ at + length (tell s b)) × (out.new ≡ sets out.old at (tell s b)) }
-{
-    match yield_of(s, b) {
-        Some(v) => numbers::put_groups(out, at, v),
+        Some(v) => T::packed(out, at, v),
         None => at,
     }
 }
@@ -198,31 +187,17 @@ fn cell_of(rows: usize, left: usize) -> Text
     Text::Row(rows, left, Part::Fresh)
 }
 
-// Where the reading of a text ends, and how many bytes it tells.
-pub(crate) fn measure(listing: &[u8], room: usize) -> TextSeen
-    requires { room < 2 ^ 63 }
-    ensures { (result.end ≡ after step (Text.Line 1) listing.now) × (result.size ≡ min (length (told step tell (Text.Line 1) listing.now)) (room + 1)) }
+// Tells a text; where its reading ends.
+pub(crate) fn read<T: Teller>(listing: &[u8], out: &mut [u8], at: usize) -> TextSeen
+    requires { T.room out.old at (told step tell (Text.Line 1) listing.now) }
+    ensures { (result.end ≡ after step (Text.Line 1) listing.now) × T.tells out.old at (told step tell (Text.Line 1) listing.now) out.new result.told }
 {
-    let front = rows::measure(listing, room);
-    let mut s = cell_of(front.rows, front.left);
-    let mut size = front.told;
-    for b in &listing[front.end..] {
-        size = numbers::capped(size, tell_size(s, *b), room);
-        s = step_on(s, *b);
-    }
-    TextSeen { end: s, size }
-}
-
-// What a text tells, from a place on.
-pub(crate) fn write(listing: &[u8], out: &mut [u8], at: usize)
-    requires { at + length (told step tell (Text.Line 1) listing.now) ≤ length out.old }
-    ensures { out.new ≡ sets out.old at (told step tell (Text.Line 1) listing.now) }
-{
-    let front = rows::write(listing, out, at);
+    let front = rows::read::<T>(listing, out, at);
     let mut s = cell_of(front.rows, front.left);
     let mut to = front.told;
     for b in &listing[front.end..] {
-        to = put_told(out, to, s, *b);
+        to = tell_on::<T>(out, to, s, *b);
         s = step_on(s, *b);
     }
+    TextSeen { end: s, told: to }
 }

@@ -1,0 +1,24 @@
+-- A turn tells one number more.
+use Rattle.std.proofs.Common.{◌-◌, refl, arith}
+use Rattle.packed.specs.Packed.{step, tell}
+use Rattle.packed.proofs.Stored.{spot_spaced}
+use Rattle.packed.proofs.Passes.{begins, joined, moved, room_for}
+use Rattle.packed.proofs.cells.spaced.Goals as goal
+
+pub loop-left-init : goal.loop-left-init
+loop-left-init g c = (begins step tell g.met.T.Teller.laws _ _ _ _ c.requires.0, c.requires.2, omega arith)
+
+pub text-to-requires : goal.text-to-requires
+text-to-requires g c =
+    let l = c.loop-left in
+    let m = spot_spaced c.args.packed.now c.args.more (l.left - 1) l.i c.in-Some.n c.requires.1 (omega arith) c.in-Some.ensures in
+    room_for step tell g.met.T.Teller.laws c.requires.0 l.invariant.0 refl m
+
+pub loop-left-preserved : goal.loop-left-preserved
+loop-left-preserved g c =
+    let l = c.loop-left in
+    let m = spot_spaced c.args.packed.now c.args.more (l.left - 1) l.i c.in-Some.n c.requires.1 (omega arith) c.in-Some.ensures in (
+      joined step tell g.met.T.Teller.laws c.requires.0 l.invariant.0 (moved step tell g.met.T.Teller.laws m c.text-to.ensures),
+      m.within,
+      omega arith,
+    )

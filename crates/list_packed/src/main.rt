@@ -12,32 +12,19 @@ use lister::TEXT;
 use std::io;
 use std::io::Write;
 
-// The ensures give the lengths, which lending the arrays needs.
-fn no_bytes() -> [u8; 3840]
-    ensures { 3840 ≡ length result }
-{
-    [0u8; 3840]
-}
-
-fn no_text() -> [u8; TEXT]
-    ensures { most_text rows_lent ≡ length result }
-{
-    [0u8; TEXT]
-}
-
 // The packed listing of the frame at the start of some bytes; its length. (No packed form is longer than a longest text.)
 fn listed_packed(frame: &[u8], out: &mut [u8]) -> usize
     requires { most_text rows_lent ≤ length out.old }
     ensures { (take result out.new ≡ packed (listing (frame_call frame.now))) × (result ≤ length out.new) }
 {
-    let mut text = no_text();
+    let mut text = [0u8; TEXT];
     let size = lister::listed(frame, &mut text);
     packed::pack(&text[..size], out).unwrap()
 }
 
 fn main(rt: HostRuntime) -> io::Result<()> {
-    let mut frame = no_bytes();
-    let mut out = no_text();
+    let mut frame = [0u8; 3840];
+    let mut out = [0u8; TEXT];
     let n = read_full(&mut rt.reader(), &mut frame)?;
     let size = listed_packed(&frame[..n], &mut out);
     io::writer(&rt).write_all(&out[..size])

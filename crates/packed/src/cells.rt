@@ -27,7 +27,7 @@ fn several(packed: &[u8], at: usize) -> Option<Spelt>
                 end: i + 1,
             });
         }
-        k = of_packed::one_more(k);
+        k = k.min(4) + 1;
     }
     None
 }

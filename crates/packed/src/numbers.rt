@@ -8,11 +8,7 @@ pub(crate) fn capped(n: usize, more: usize, room: usize) -> usize
     requires { (room < 2 ^ 63) × (n + more < 2 ^ 64) }
     ensures { result ≡ min (n + more) (room + 1) }
 {
-    let sum = n + more;
-    if room < sum {
-        return room + 1;
-    }
-    sum
+    (n + more).min(room + 1)
 }
 
 // How many groups a number takes.

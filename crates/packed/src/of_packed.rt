@@ -1,5 +1,5 @@
 // Reading a packed listing.
-ghost use Rattle.std.specs.Prelude.{◌≡◌, ◌+◌, ◌-◌, ◌≤◌, min, length, drop, MatchResult};
+ghost use Rattle.std.specs.Prelude.{◌≡◌, ◌≤◌, length, drop, MatchResult};
 ghost use Rattle.packed.specs.Answers.{number};
 ghost use Rattle.packed.specs.Machine.{after, told};
 ghost use Rattle.packed.specs.Moves.{spot};
@@ -7,7 +7,7 @@ ghost use Rattle.packed.specs.Packed.{weight, group, rows_on, reached, grouping,
 ghost use Rattle.packed.specs.Tellers.{Reads};
 
 use super::tellers::Teller;
-use super::{Group, Packed, PackedFront, PackedSeen, Place, Refusal, cells};
+use super::{Group, Packed, PackedFront, Place, Refusal, Seen, cells};
 
 // What a group counts for: 128 to the number of groups before it, which is 5 from the sixth on.
 pub(crate) fn weight_of(k: u8) -> usize
@@ -23,14 +23,7 @@ pub(crate) fn weight_of(k: u8) -> usize
     }
 }
 
-// The groups after one more: 5 stands for all more than that.
-pub(crate) fn one_more(k: u8) -> u8
-    ensures { result ≡ min (k + 1) 5 }
-{
-    k.min(4) + 1
-}
-
-// What a byte makes of a number n so far, of k groups.
+// What a byte makes of a number n so far, of k groups, where 5 stands for all from 5 on.
 fn group_of(n: u32, k: u8, b: u8) -> Group
     ensures { result ≡ group n k b }
 {
@@ -39,7 +32,7 @@ fn group_of(n: u32, k: u8, b: u8) -> Group
         return Group::Bad(Refusal::TooLarge);
     }
     if 128 <= b {
-        return Group::Going(m as u32, one_more(k));
+        return Group::Going(m as u32, k.min(4) + 1);
     }
     if b == 0 && k != 0 {
         return Group::Bad(Refusal::NeedlessGroup);
@@ -180,7 +173,7 @@ fn front<T: Teller>(packed: &[u8], out: &mut [u8], at: usize) -> PackedFront
 }
 
 // Tells a packed listing; where its reading ends.
-pub(crate) fn read<T: Teller>(packed: &[u8], out: &mut [u8], at: usize) -> PackedSeen
+pub(crate) fn read<T: Teller>(packed: &[u8], out: &mut [u8], at: usize) -> Seen<Packed>
     requires { T.room out.old at (told step tell (Packed.At Place.Count 0 0) packed.now) }
     ensures { (result.end ≡ after step (Packed.At Place.Count 0 0) packed.now) × T.tells out.old at (told step tell (Packed.At Place.Count 0 0) packed.now) out.new result.told }
 {
@@ -191,5 +184,5 @@ pub(crate) fn read<T: Teller>(packed: &[u8], out: &mut [u8], at: usize) -> Packe
         to = tell_on::<T>(out, to, s, *b);
         s = step_on(s, *b);
     }
-    PackedSeen { end: s, told: to }
+    Seen { end: s, told: to }
 }

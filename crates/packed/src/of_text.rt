@@ -6,7 +6,7 @@ ghost use Rattle.packed.specs.Machine.{after, told};
 ghost use Rattle.packed.specs.Text.{next, row_end, lettered, row_on, last_on, step, yields, tell, verdict, count, ended};
 
 use super::tellers::Teller;
-use super::{Next, Part, Refusal, Text, TextSeen, rows};
+use super::{Next, Part, Refusal, Seen, Text, rows};
 
 // What a first byte makes of a number.
 fn fresh_next(sep: u8, b: u8) -> Next
@@ -188,7 +188,7 @@ fn cell_of(rows: usize, left: usize) -> Text
 }
 
 // Tells a text; where its reading ends.
-pub(crate) fn read<T: Teller>(listing: &[u8], out: &mut [u8], at: usize) -> TextSeen
+pub(crate) fn read<T: Teller>(listing: &[u8], out: &mut [u8], at: usize) -> Seen<Text>
     requires { T.room out.old at (told step tell (Text.Line 1) listing.now) }
     ensures { (result.end ≡ after step (Text.Line 1) listing.now) × T.tells out.old at (told step tell (Text.Line 1) listing.now) out.new result.told }
 {
@@ -199,5 +199,5 @@ pub(crate) fn read<T: Teller>(listing: &[u8], out: &mut [u8], at: usize) -> Text
         to = tell_on::<T>(out, to, s, *b);
         s = step_on(s, *b);
     }
-    TextSeen { end: s, told: to }
+    Seen { end: s, told: to }
 }

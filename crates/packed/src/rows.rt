@@ -1,5 +1,6 @@
 // The rows at the front of a text, number by number, while each stands whole. Only plain numbers go from one turn to the next; what follows is
-// read by `of_text`.
+// read by `of_text`. (`cells` does the same in a packed listing, where the count of the rows to come is known: a trait over the two would hold
+// each line that they do not share.)
 ghost use Rattle.std.specs.Prelude.{◌≡◌, ◌≤◌, ◌<◌, length, drop};
 ghost use Rattle.packed.specs.Machine.{told};
 ghost use Rattle.packed.specs.Moves.{cell};

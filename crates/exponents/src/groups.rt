@@ -26,6 +26,7 @@ pub(crate) fn bins_each(strategy: u8) -> usize
 }
 
 // An exponent stands for as many bins as the strategy says, from bin `at` on.
+// Stores one by one: a `fill` of the two or four bins was tried, and took half as much again for each group.
 fn repeat(row: &mut [i16; 256], at: usize, strategy: u8, exponent: u32)
     requires { (strategy < 4) × ((at + grammar.bins_each strategy ≤ 256) × (exponent < 32)) }
     ensures { row.new ≡ sets row.old at (replicate (grammar.bins_each strategy) (pos exponent)) }

@@ -1,6 +1,8 @@
 -- A value written into a field of a frame that stands in a capture: the answer, and the capture after it.
-use Rattle.std.specs.Prelude.{Bool, cond, ◌||◌, List, ℕ, ◌+◌, ◌*◌, ◌^◌, eqb, leb, ltb, length}
+use Rattle.std.specs.Prelude.{Bool, cond, ◌||◌, List, ℕ, ◌+◌, ◌*◌, ◌^◌, eqb, leb, ltb, length, Result, Ok, Err}
 use Rattle.bits.specs.Put.{put}
+use Rattle.edits.specs.declared.Refusal.{Refusal}
+use Rattle.edits.specs.declared.Refusal.TheVariants.{NoFieldWidth, Outside, ValueTooWide}
 
 -- a field has 1 to 16 bits
 abbrev pub no_width : ℕ → Bool
@@ -13,3 +15,13 @@ set capture place position width value =
     cond (no_width width) (57, capture)
     (cond (ltb (length capture * 8) (place * 8 + position + width)) (58, capture)
     (cond (leb (2 ^ width) value) (59, capture) (0, put capture (place * 8 + position) width value)))
+
+-- the number that is told of a refusal, and of an answer, where 0 says that the value was written
+abbrev pub number : Refusal → ℕ
+number NoFieldWidth = 57
+number Outside = 58
+number ValueTooWide = 59
+
+abbrev pub told : Result (Unit {0}) Refusal → ℕ
+told (Ok written) = 0
+told (Err refusal) = number refusal

@@ -5,18 +5,29 @@ ghost use Rattle.std.specs.Prelude.{◌≡◌, ◌+◌, ◌*◌, ◌^◌, ◌≤
 ghost use Rattle.ac3.specs.Marked.{among};
 ghost use Rattle.syntax.specs.Names as Name;
 ghost use Rattle.edits.specs.Edits as after;
+ghost use Rattle.edits.specs.Edits.{number, told};
 
 use syntax::names::*;
 
 // How many names may be edited freely.
 const EDITABLE: usize = 39;
 
-// The refusals (the table of docs/FORMAT.md).
-const NO_FIELD_WIDTH: u8 = 57;
+// Why a value is not written, with the numbers of the table in docs/FORMAT.md.
+#[derive(Clone, Copy, Debug, PartialEq, Eq)]
+pub enum Refusal {
+    NoFieldWidth = 57,
+    Outside = 58,
+    ValueTooWide = 59,
+}
 
-const OUTSIDE: u8 = 58;
-
-const VALUE_TOO_WIDE: u8 = 59;
+impl Refusal {
+    // The number that is told of it.
+    pub fn number(self) -> u8
+        ensures { result ≡ number self }
+    {
+        self as u8
+    }
+}
 
 // ---- which names
 
@@ -101,24 +112,24 @@ fn values(width: usize) -> usize
 
 // Writes a value of this width at a bit of the frame that starts at a place of the capture. All other bits stay as they are, and on a
 // refusal all bits do.
-pub fn set(capture: &mut [u8], place: usize, position: usize, width: usize, value: usize) -> u8
-    ensures { (result, capture.new) ≡ after.set capture.old place position width value }
+pub fn set(
+    capture: &mut [u8],
+    place: usize,
+    position: usize,
+    width: usize,
+    value: usize,
+) -> Result<(), Refusal>
+    ensures { (told result, capture.new) ≡ after.set capture.old place position width value }
 {
-    if width == 0 {
-        return NO_FIELD_WIDTH;
+    if width == 0 || 16 < width {
+        return Err(Refusal::NoFieldWidth);
     }
-    if 16 < width {
-        return NO_FIELD_WIDTH;
-    }
-    if capture.len() < place {
-        return OUTSIDE;
-    }
-    if !within(capture.len() - place, position, width) {
-        return OUTSIDE;
+    if capture.len() < place || !within(capture.len() - place, position, width) {
+        return Err(Refusal::Outside);
     }
     if values(width) <= value {
-        return VALUE_TOO_WIDE;
+        return Err(Refusal::ValueTooWide);
     }
     bits::put(&mut capture[place..], position, width, value as u32);
-    0
+    Ok(())
 }

@@ -16,25 +16,25 @@ use Rattle.syntax.specs.Names as Name
 use Rattle.ac3.specs.Promise.{Call, input, answer_to, Accepted}
 use Rattle.ac3.specs.declared.Answer as parse
 use Rattle.rows.specs.Found.{value_of}
-use Rattle.burst.specs.Answers.{refuses, gives, not_aBurst, wrong_words, of_frame, wrong_length, not_zero, other_mode, no_room, frame_in, writing, reading, told, bsmod_of, written, read}
+use Rattle.burst.specs.Answers.{Answer, refuses, gives, frame_in, writing, reading, answered, numbered, bsmod_of, written, read}
 use Rattle.burst.specs.Burst.{burst_bytes, head_bytes, type_word, mode_bits, head, burst_of, word_at, opens, all_zero}
 use Rattle.burst.specs.Bursts.{wrote, bytes_of, Gives, Bytes, AsManyRows, Inverse}
 use Rattle.rows.specs.Framed.{frame_of, SameFrame, Framed}
-use Rattle.burst.specs.declared.Answer.{Answer}
+use Rattle.burst.specs.declared.outcome.Refusal.TheVariants.{Frame, NoRoom, NotABurst, WrongWords, WrongLength, NotZero, OtherMode}
 use Rattle.rows.proofs.Framed.{accepted_framed}
 use Rattle.rows.proofs.Spelt.{spelt}
 use Rattle.burst.proofs.Judged.{bsmod_lt, w_done, r_done}
 use Rattle.burst.proofs.Words.{fourth, mode_there, opened, frame_there, zeros_there}
-use Rattle.burst.proofs.Written.{burst_long}
+use Rattle.burst.proofs.Laid.{burst_long}
 
 -- ---- what is not refused passed every check
 
 module _ (lent : List ℤ) (out : List ℕ) (a : parse.Answer) (after : List ℤ) (b : ℕ) (s : List ℕ) where
-  passed_writing : (told lent out (a, after) (writing a b s (length out))).0.refusal ≡ 0 → (a.refusal ≡ 0) × (burst_bytes ≤ length out)
+  passed_writing : (numbered (answered lent out (a, after) (writing a b s (length out)))).0.refusal ≡ 0 → (a.refusal ≡ 0) × (burst_bytes ≤ length out)
   passed_writing = go (eqb a.refusal 0) (ltb (length out) burst_bytes) refl refl
     where
       go : (p q : Bool) → eqb a.refusal 0 ≡ p → ltb (length out) burst_bytes ≡ q
-          → (told lent out (a, after) (cond (not p) (refuses (of_frame a.refusal)) (cond q (refuses no_room) (gives (burst_of b (frame_in a s)))))).0.refusal ≡ 0
+          → (numbered (answered lent out (a, after) (cond (not p) (refuses (Frame a.refusal)) (cond q (refuses NoRoom) (gives (burst_of b (frame_in a s))))))).0.refusal ≡ 0
           → (a.refusal ≡ 0) × (burst_bytes ≤ length out)
       go false q e f h = absurd (eqb-false a.refusal 0 e h)
       go true true e f h = absurd (omega (arith, h))
@@ -53,15 +53,15 @@ module _ (lent : List ℤ) (out : List ℕ) (a : parse.Answer) (after : List ℤ
   abbrev n : ℕ
   n = a.summary.header.bytes
 
-  passed_reading : (told lent out (a, after) (reading a b burst (length out))).0.refusal ≡ 0 → Passed a b burst out
+  passed_reading : (numbered (answered lent out (a, after) (reading a b burst (length out)))).0.refusal ≡ 0 → Passed a b burst out
   passed_reading = go (eqb (length burst) burst_bytes) (opens burst) (eqb a.refusal 0) (eqb (word_at burst 3) (8 * n)) (all_zero (drop (head_bytes + n) burst))
       (eqb (mode_bits (word_at burst 2)) b) (ltb (length out) n) refl refl refl refl refl refl refl
     where
       go : (p1 p2 p3 p4 p5 p6 p7 : Bool) → eqb (length burst) burst_bytes ≡ p1 → opens burst ≡ p2 → eqb a.refusal 0 ≡ p3 → eqb (word_at burst 3) (8 * n) ≡ p4
           → all_zero (drop (head_bytes + n) burst) ≡ p5 → eqb (mode_bits (word_at burst 2)) b ≡ p6 → ltb (length out) n ≡ p7
-          → (told lent out (a, after) (cond (not p1) (refuses not_aBurst) (cond (not p2) (refuses wrong_words) (cond (not p3) (refuses (of_frame a.refusal))
-          (cond (not p4) (refuses wrong_length) (cond (not p5) (refuses not_zero) (cond (not p6) (refuses other_mode) (cond p7 (refuses no_room)
-          (gives (frame_in a (drop head_bytes burst))))))))))).0.refusal ≡ 0
+          → (numbered (answered lent out (a, after) (cond (not p1) (refuses NotABurst) (cond (not p2) (refuses WrongWords) (cond (not p3) (refuses (Frame a.refusal))
+          (cond (not p4) (refuses WrongLength) (cond (not p5) (refuses NotZero) (cond (not p6) (refuses OtherMode) (cond p7 (refuses NoRoom)
+          (gives (frame_in a (drop head_bytes burst)))))))))))).0.refusal ≡ 0
           → Passed a b burst out
       go false p2 p3 p4 p5 p6 p7 e1 e2 e3 e4 e5 e6 e7 h = absurd (omega (arith, h))
       go true false p3 p4 p5 p6 p7 e1 e2 e3 e4 e5 e6 e7 h = absurd (omega (arith, h))
@@ -96,7 +96,7 @@ module _ (c : Call) (ok : Accepted c) where
   whole = burst_of (bsmod_of c) (frame_of c)
 
   writes : (out : List ℕ) → burst_bytes ≤ length out → Gives (wrote c out) whole out
-  writes out long = given whole out (w_done c.room out (answer_to c).0 (answer_to c).1 (bsmod_of c) (input c) ok long) refl refl refl
+  writes out long = given whole out (ap numbered (w_done c.room out (answer_to c).0 (answer_to c).1 (bsmod_of c) (input c) ok long)) refl refl refl
 
   -- reading its burst
   module _ (rows : List ℤ) (same_rows : AsManyRows c.room rows) where
@@ -118,14 +118,14 @@ module _ (c : Call) (ok : Accepted c) where
     reads : (room : List ℕ) → length (frame_of c) ≤ length room → Gives (read whole rows room) (frame_of c) room
     reads room long =
         given (frame_of c) room
-        (r_done rows room (answer_to d).0 (answer_to d).1 (bsmod_of d) whole
+        (ap numbered (r_done rows room (answer_to d).0 (answer_to d).1 (bsmod_of d) whole
         (eq-eqb (length whole) burst_bytes (burst_long (bsmod_of c) (frame_of c) fits))
         (opened (bsmod_of c) (bsmod_lt c ok) (frame_of c) fits)
         (eq-eqb (answer_to d).0.refusal 0 (ap (λ a. a.refusal) there ∙ ok))
         (eq-eqb (word_at whole 3) (8 * (answer_to d).0.summary.header.bytes) (fourth (bsmod_of c) (bsmod_lt c ok) (frame_of c) fits ∙ ap (λ n. 8 * n) size_same))
         (ap (λ n. all_zero (drop (head_bytes + n) whole)) (sym size_same) ∙ zeros_there (bsmod_of c) (frame_of c))
         (eq-eqb (mode_bits (word_at whole 2)) (bsmod_of d) (mode_there (bsmod_of c) (bsmod_lt c ok) (frame_of c) fits ∙ sym mode_same))
-        (le-ltb (length room) (answer_to d).0.summary.header.bytes (omega (arith, size_same))))
+        (le-ltb (length room) (answer_to d).0.summary.header.bytes (omega (arith, size_same)))))
         refl (ap length frame_same) (ap (λ f. f ++ drop (length f) room) frame_same)
 
 -- ---- the theorems
@@ -235,7 +235,7 @@ module _ (burst : List ℕ) (rows : List ℤ) (out : List ℕ) (bytes : Bytes bu
   frame_read : Gives (read burst rows out) f out
   frame_read =
       given f out
-      (r_done rows out (answer_to e).0 (answer_to e).1 (bsmod_of e) burst passed.size passed.words passed.ok passed.long passed.zeros passed.mode passed.room) refl refl refl
+      (ap numbered (r_done rows out (answer_to e).0 (answer_to e).1 (bsmod_of e) burst passed.size passed.words passed.ok passed.long passed.zeros passed.mode passed.room)) refl refl refl
 
   module _ (again : List ℤ) (room : List ℕ) (same_rows : AsManyRows rows again) (space : burst_bytes ≤ length room) where
     abbrev alone : Call

@@ -1,7 +1,8 @@
--- Check by check: what is told at each of them, of the answer to the parse; and bsmod as it stands in the rows is the definition's, which has
+-- What is answered of the answer to the parse, where that is not seen at once; and bsmod as it stands in the rows is the definition's, which has
 -- three bits. Assumes nothing.
 use mathlib.Core.Bool.{true, false}
 use mathlib.Core.List.{List, ◌++◌}
+use Rattle.std.specs.Prelude.{Result, Ok, Err}
 use mathlib.Core.Path.{◌≡◌, sym, ap, ◌∙◌}
 use Prim.Native.Nat.{ℕ, ◌+◌, ◌*◌, ◌≤◌, ◌<◌, min}
 use native.Mathlib.Omega.{arith}
@@ -22,10 +23,12 @@ use Rattle.rows.specs.Look.{value_in}
 use Rattle.rows.proofs.Found.{looks_up}
 use Rattle.rows.proofs.Opening.{head_rows}
 use Rattle.burst.specs.Burst.{burst_bytes, head_bytes, burst_of, word_at, mode_bits, opens, all_zero}
-use Rattle.burst.specs.Answers.{frame_in, writing, reading, told, bsmod_of, written, read}
-use Rattle.burst.specs.declared.Answer.{Answer}
+use Rattle.burst.specs.Answers.{frame_in, writing, reading, answered, bsmod_of, burst_write, burst_read}
+use Rattle.burst.specs.declared.outcome.Refusal.TheVariants.{NoRoom, OtherMode}
+use Rattle.burst.specs.declared.outcome.Refused.{Refused}
+use Rattle.burst.specs.declared.outcome.Written.{Written}
 use Rattle.rows.proofs.Framed.{accepted_framed}
-use Rattle.burst.proofs.Written.{burst_long}
+use Rattle.burst.proofs.Laid.{burst_long}
 
 -- ---- bsmod
 
@@ -66,18 +69,12 @@ module _ (c : Call) {a : parse.Answer} {after : List ℤ} (is : (a, after) ≡ a
 -- ---- writing
 
 module _ (lent : List ℤ) (out : List ℕ) (a : parse.Answer) (after : List ℤ) (b : ℕ) (s : List ℕ) where
-  abbrev Writes : Answer → List ℕ → Type 0
-  Writes r out' = (r, (after, out')) ≡ told lent out (a, after) (writing a b s (length out))
-
-  w_frame : ¬ (a.refusal ≡ 0) → Writes (record { refusal = a.refusal; rows = a.rows; bytes = 0 }) out
-  w_frame h = rw (ne_eqb a.refusal 0 h)
-
-  w_room : a.refusal ≡ 0 → length out < burst_bytes → Writes (record { refusal = 28; rows = a.rows; bytes = 0 }) out
-  w_room h short = rw (eq-eqb a.refusal 0 h, lt-ltb (length out) burst_bytes short)
+  abbrev Writes : Result Written Refused → List ℕ → Type 0
+  Writes r out' = (r, (after, out')) ≡ answered lent out (a, after) (writing a b s (length out))
 
   pub w_done : a.refusal ≡ 0 → burst_bytes ≤ length out
       → let burst = burst_of b (frame_in a s) in
-      Writes (record { refusal = 0; rows = a.rows; bytes = length burst }) (burst ++ drop (length burst) out)
+      Writes (Ok (record { rows = a.rows; bytes = length burst })) (burst ++ drop (length burst) out)
   w_done h long = rw (eq-eqb a.refusal 0 h, le-ltb (length out) burst_bytes long)
 
 module _ (capture : List ℕ) (place : ℕ) (rows : List ℤ) (out : List ℕ) where
@@ -85,17 +82,11 @@ module _ (capture : List ℕ) (place : ℕ) (rows : List ℤ) (out : List ℕ) w
   at = record { capture = capture; place = place; room = rows }
 
   module _ {a : parse.Answer} {after : List ℤ} (is : (a, after) ≡ answer_to at) where
-    abbrev Written : Answer → List ℕ → Type 0
-    Written r out' = (r, (after, out')) ≡ written capture place rows out
+    abbrev Wrote : Result Written Refused → List ℕ → Type 0
+    Wrote r out' = (r, (after, out')) ≡ burst_write capture place rows out
 
-    as_told : told rows out (a, after) (writing a (bsmod_of at) (input at) (length out)) ≡ written capture place rows out
-    as_told = ap (λ x. told rows out x (writing x.0 (bsmod_of at) (input at) (length out))) is
-
-    pub frame_refused : {r : Answer} → ¬ (a.refusal ≡ 0) → r ≡ record { refusal = a.refusal; rows = a.rows; bytes = 0 } → Written r out
-    frame_refused h e = ap (λ r. (r, (after, out))) e ∙ w_frame rows out a after (bsmod_of at) (input at) h ∙ as_told
-
-    pub too_short : {r : Answer} → a.refusal ≡ 0 → length out < burst_bytes → r ≡ record { refusal = 28; rows = a.rows; bytes = 0 } → Written r out
-    too_short h short e = ap (λ r. (r, (after, out))) e ∙ w_room rows out a after (bsmod_of at) (input at) h short ∙ as_told
+    as_told : answered rows out (a, after) (writing a (bsmod_of at) (input at) (length out)) ≡ burst_write capture place rows out
+    as_told = ap (λ x. answered rows out x (writing x.0 (bsmod_of at) (input at) (length out))) is
 
     module _ (ok : a.refusal ≡ 0) where
       pub ends : place + a.summary.header.bytes ≤ length capture
@@ -105,78 +96,54 @@ module _ (capture : List ℕ) (place : ℕ) (rows : List ℤ) (out : List ℕ) w
       fits = omega (arith, frame_long at is ok, most at is ok)
 
       pub put_burst : {b : ℕ} {out' : List ℕ} (frame : List ℕ) → burst_bytes ≤ length out → b ≡ clamp_z (value_in a.rows Name.bsmod after) 7 → frame ≡ frame_in a (input at)
-          → out' ≡ burst_of b frame ++ drop burst_bytes out → Written (record { refusal = 0; rows = a.rows; bytes = burst_bytes }) out'
+          → out' ≡ burst_of b frame ++ drop burst_bytes out → Wrote (Ok (record { rows = a.rows; bytes = burst_bytes })) out'
       put_burst frame long mode same put =
           let frame' = frame_in a (input at) in
           let size = burst_long (bsmod_of at) frame' fits in
-          (λ j. (record { refusal = 0; rows = a.rows; bytes = sym size j }, (after, (put ∙ (λ k. burst_of (found at is ok mode k) (same k) ++ drop (sym size k) out)) j)))
+          (λ j. (Ok (record { rows = a.rows; bytes = sym size j }), (after, (put ∙ (λ k. burst_of (found at is ok mode k) (same k) ++ drop (sym size k) out)) j)))
           ∙ w_done rows out a after (bsmod_of at) (input at) ok long
           ∙ as_told
 
 -- ---- reading
 
 module _ (lent : List ℤ) (out : List ℕ) (a : parse.Answer) (after : List ℤ) (b : ℕ) (burst : List ℕ) where
-  abbrev Reads : Answer → List ℤ → List ℕ → Type 0
-  Reads r room out' = (r, (room, out')) ≡ told lent out (a, after) (reading a b burst (length out))
+  abbrev Reads : Result Written Refused → List ℤ → List ℕ → Type 0
+  Reads r room out' = (r, (room, out')) ≡ answered lent out (a, after) (reading a b burst (length out))
 
   abbrev bytes : ℕ
   bytes = a.summary.header.bytes
 
-  r_size : eqb (length burst) burst_bytes ≡ false → Reads (record { refusal = 30; rows = 0; bytes = 0 }) lent out
-  r_size h = rw h
-
   module _ (size : eqb (length burst) burst_bytes ≡ true) where
-    r_words : opens burst ≡ false → Reads (record { refusal = 31; rows = 0; bytes = 0 }) lent out
-    r_words h = rw (size, h)
-
     module _ (words : opens burst ≡ true) where
-      r_frame : eqb a.refusal 0 ≡ false → Reads (record { refusal = a.refusal; rows = a.rows; bytes = 0 }) after out
-      r_frame h = rw (size, words, h)
-
       module _ (ok : eqb a.refusal 0 ≡ true) where
-        r_length : eqb (word_at burst 3) (8 * bytes) ≡ false → Reads (record { refusal = 32; rows = a.rows; bytes = 0 }) after out
-        r_length h = rw (size, words, ok, h)
-
         module _ (long : eqb (word_at burst 3) (8 * bytes) ≡ true) where
-          r_zero : all_zero (drop (head_bytes + bytes) burst) ≡ false → Reads (record { refusal = 33; rows = a.rows; bytes = 0 }) after out
-          r_zero h = rw (size, words, ok, long, h)
-
           module _ (zero-after : all_zero (drop (head_bytes + bytes) burst) ≡ true) where
-            r_mode : eqb (mode_bits (word_at burst 2)) b ≡ false → Reads (record { refusal = 34; rows = a.rows; bytes = 0 }) after out
+            r_mode : eqb (mode_bits (word_at burst 2)) b ≡ false → Reads (Err (record { refusal = OtherMode; rows = a.rows })) after out
             r_mode h = rw (size, words, ok, long, zero-after, h)
 
             module _ (mode : eqb (mode_bits (word_at burst 2)) b ≡ true) where
-              r_room : ltb (length out) bytes ≡ true → Reads (record { refusal = 28; rows = a.rows; bytes = 0 }) after out
+              r_room : ltb (length out) bytes ≡ true → Reads (Err (record { refusal = NoRoom; rows = a.rows })) after out
               r_room h = rw (size, words, ok, long, zero-after, mode, h)
 
               pub r_done : ltb (length out) bytes ≡ false
                   → let frame = frame_in a (drop head_bytes burst) in
-                  Reads (record { refusal = 0; rows = a.rows; bytes = length frame }) after (frame ++ drop (length frame) out)
+                  Reads (Ok (record { rows = a.rows; bytes = length frame })) after (frame ++ drop (length frame) out)
               r_done h = rw (size, words, ok, long, zero-after, mode, h)
 
 module _ (burst : List ℕ) (rows : List ℤ) (out : List ℕ) where
   abbrev behind : Call
   behind = record { capture = burst; place = head_bytes; room = rows }
 
-  abbrev Read : Answer → List ℤ → List ℕ → Type 0
-  Read r after out' = (r, (after, out')) ≡ read burst rows out
-
-  pub not_a_burst : {r : Answer} → ¬ (length burst ≡ burst_bytes) → r ≡ record { refusal = 30; rows = 0; bytes = 0 } → Read r rows out
-  not_a_burst h e = ap (λ r. (r, (rows, out))) e ∙ r_size rows out (answer_to behind).0 (answer_to behind).1 (bsmod_of behind) burst (ne_eqb (length burst) burst_bytes h)
+  abbrev Read : Result Written Refused → List ℤ → List ℕ → Type 0
+  Read r after out' = (r, (after, out')) ≡ burst_read burst rows out
 
   module _ (size : length burst ≡ burst_bytes) where
     abbrev sized : eqb (length burst) burst_bytes ≡ true
     sized = eq-eqb (length burst) burst_bytes size
 
-    pub wrong_words_lem : {r : Answer} → opens burst ≡ false → r ≡ record { refusal = 31; rows = 0; bytes = 0 } → Read r rows out
-    wrong_words_lem h e = ap (λ r. (r, (rows, out))) e ∙ r_words rows out (answer_to behind).0 (answer_to behind).1 (bsmod_of behind) burst sized h
-
     module _ (words : opens burst ≡ true) {a : parse.Answer} {after : List ℤ} (is : (a, after) ≡ answer_to behind) where
-      as_read : told rows out (a, after) (reading a (bsmod_of behind) burst (length out)) ≡ read burst rows out
-      as_read = ap (λ x. told rows out x (reading x.0 (bsmod_of behind) burst (length out))) is
-
-      pub refused_frame : {r : Answer} → ¬ (a.refusal ≡ 0) → r ≡ record { refusal = a.refusal; rows = a.rows; bytes = 0 } → Read r after out
-      refused_frame h e = ap (λ r. (r, (after, out))) e ∙ r_frame rows out a after (bsmod_of behind) burst sized words (ne_eqb a.refusal 0 h) ∙ as_read
+      as_read : answered rows out (a, after) (reading a (bsmod_of behind) burst (length out)) ≡ burst_read burst rows out
+      as_read = ap (λ x. answered rows out x (reading x.0 (bsmod_of behind) burst (length out))) is
 
       module _ (ok : a.refusal ≡ 0) where
         abbrev size_of : ℕ
@@ -191,21 +158,14 @@ module _ (burst : List ℕ) (rows : List ℤ) (out : List ℕ) where
         pub small : size_of ≤ longest
         small = most behind is ok
 
-        pub wrong_length_lem : {r : Answer} {w : ℕ} → w ≡ word_at burst 3 → ¬ (w ≡ 8 * size_of) → r ≡ record { refusal = 32; rows = a.rows; bytes = 0 } → Read r after out
-        wrong_length_lem e h k =
-            ap (λ r. (r, (after, out))) k ∙ r_length rows out a after (bsmod_of behind) burst sized words taken (ne_eqb (word_at burst 3) (8 * size_of) (λ x. h (e ∙ x))) ∙ as_read
-
         module _ (fourth : word_at burst 3 ≡ 8 * size_of) where
           abbrev long : eqb (word_at burst 3) (8 * size_of) ≡ true
           long = eq-eqb (word_at burst 3) (8 * size_of) fourth
 
-          pub nonzero : {r : Answer} → all_zero (drop (head_bytes + size_of) burst) ≡ false → r ≡ record { refusal = 33; rows = a.rows; bytes = 0 } → Read r after out
-          nonzero h k = ap (λ r. (r, (after, out))) k ∙ r_zero rows out a after (bsmod_of behind) burst sized words taken long h ∙ as_read
-
           module _ (zeros : all_zero (drop (head_bytes + size_of) burst) ≡ true) {b w : ℕ} (mode : b ≡ clamp_z (value_in a.rows Name.bsmod after) 7) (third : w ≡ word_at burst 2) where
-            pub other_mode_lem : {r : Answer} → ¬ (mode_bits w ≡ b) → r ≡ record { refusal = 34; rows = a.rows; bytes = 0 } → Read r after out
+            pub other_mode_lem : {r : Refused} → ¬ (mode_bits w ≡ b) → r ≡ record { refusal = OtherMode; rows = a.rows } → Read (Err r) after out
             other_mode_lem h k =
-                ap (λ r. (r, (after, out))) k
+                ap (λ r. (Err r, (after, out))) k
                 ∙ r_mode rows out a after (bsmod_of behind) burst sized words taken long zeros
                 (ne_eqb (mode_bits (word_at burst 2)) (bsmod_of behind) (λ e. h (ap mode_bits third ∙ e ∙ sym (found behind is ok mode))))
                 ∙ as_read
@@ -214,15 +174,15 @@ module _ (burst : List ℕ) (rows : List ℤ) (out : List ℕ) where
               abbrev agreed : eqb (mode_bits (word_at burst 2)) (bsmod_of behind) ≡ true
               agreed = eq-eqb (mode_bits (word_at burst 2)) (bsmod_of behind) (ap mode_bits (sym third) ∙ same ∙ found behind is ok mode)
 
-              pub room_short : {r : Answer} → length out < size_of → r ≡ record { refusal = 28; rows = a.rows; bytes = 0 } → Read r after out
+              pub room_short : {r : Refused} → length out < size_of → r ≡ record { refusal = NoRoom; rows = a.rows } → Read (Err r) after out
               room_short h k =
-                  ap (λ r. (r, (after, out))) k ∙ r_room rows out a after (bsmod_of behind) burst sized words taken long zeros agreed (lt-ltb (length out) size_of h) ∙ as_read
+                  ap (λ r. (Err r, (after, out))) k ∙ r_room rows out a after (bsmod_of behind) burst sized words taken long zeros agreed (lt-ltb (length out) size_of h) ∙ as_read
 
               pub copied : {out' : List ℕ} (frame : List ℕ) → size_of ≤ length out → frame ≡ frame_in a (drop head_bytes burst) → out' ≡ sets out 0 frame
-                  → Read (record { refusal = 0; rows = a.rows; bytes = size_of }) after out'
+                  → Read (Ok (record { rows = a.rows; bytes = size_of })) after out'
               copied frame h e put =
                   let frame' = frame_in a (drop head_bytes burst) in
                   let size : length frame' ≡ size_of = frame_long behind is ok in
-                  (λ j. (record { refusal = 0; rows = a.rows; bytes = sym size j }, (after, (put ∙ ap (sets out 0) e ∙ in_front_lem frame' out (omega (arith, size))) j)))
+                  (λ j. (Ok (record { rows = a.rows; bytes = sym size j }), (after, (put ∙ ap (sets out 0) e ∙ in_front_lem frame' out (omega (arith, size))) j)))
                   ∙ r_done rows out a after (bsmod_of behind) burst sized words taken long zeros agreed (le-ltb (length out) size_of h)
                   ∙ as_read

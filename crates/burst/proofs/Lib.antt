@@ -1,4 +1,4 @@
-pub mod Written
+pub mod Laid
 pub mod Judged
 pub mod Words
 pub mod Bursts

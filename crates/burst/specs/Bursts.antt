@@ -2,10 +2,9 @@
 -- never give one burst.
 use Rattle.std.specs.Prelude.{List, [], ◌++◌, ◌≡◌, ℕ, ◌≤◌, ◌<◌, ℤ, length, get_or, take, drop}
 use Rattle.ac3.specs.Promise.{Call, room_for}
-use Rattle.burst.specs.Answers.{written, read}
+use Rattle.burst.specs.Answers.{Answer, written, read}
 use Rattle.burst.specs.Burst.{burst_bytes}
 use Rattle.rows.specs.Framed.{frame_of}
-use Rattle.burst.specs.declared.Answer.{Answer}
 
 -- a call of either, with what it was lent and what it left
 abbrev pub wrote : Call → (out : List ℕ) → Answer × (List ℤ × List ℕ)

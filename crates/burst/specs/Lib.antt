@@ -1,3 +1,4 @@
 pub mod Burst
+pub mod Refusals
 pub mod Answers
 pub mod Bursts

@@ -1,6 +1,8 @@
 // IEC 61937 data bursts: a frame as a burst of 6,144 bytes, and the frame of a burst.
 #![tactic(auto)]
 
+mod outcome;
+
 ghost use Rattle.std.specs.Prelude.{◌++◌, ◌≡◌, ◌+◌, ◌<◌, ◌≤◌, length, drop};
 ghost use Rattle.signed.specs.Level.{clamp_z};
 ghost use Rattle.syntax.specs.Names as Name;
@@ -8,43 +10,13 @@ ghost use Rattle.rows.specs.Look.{value_in};
 ghost use Rattle.burst.specs.Burst.{burst_bytes, head_bytes, burst_of, word_at, opens, all_zero};
 ghost use Rattle.burst.specs.Answers as answers;
 
+pub use outcome::{Refusal, Refused, Written};
 use syntax::names::BSMOD;
 
 // The bytes of a burst, and of its four words before the frame.
 const BURST: usize = 6144;
 
 const HEAD: usize = 8;
-
-// The refusals that are not the frame's own (the table of docs/FORMAT.md).
-const NO_ROOM: u8 = 28;
-
-const NOT_A_BURST: u8 = 30;
-
-const WRONG_WORDS: u8 = 31;
-
-const WRONG_LENGTH: u8 = 32;
-
-const NOT_ZERO: u8 = 33;
-
-const OTHER_MODE: u8 = 34;
-
-// Refusal 0: done. The rows that the parse left, and the bytes written to the output.
-#[derive(Drop)]
-pub struct Answer {
-    pub refusal: u8,
-    pub rows: usize,
-    pub bytes: u16,
-}
-
-fn refused(refusal: u8, rows: usize) -> Answer
-    ensures { result ≡ record { refusal = refusal; rows = rows; bytes = 0 } }
-{
-    Answer {
-        refusal,
-        rows,
-        bytes: 0,
-    }
-}
 
 // bsmod, in the row of its name; it is three bits wide.
 fn bsmod(rows: &[i32], count: usize) -> u16
@@ -70,26 +42,28 @@ fn put(frame: &[u8], bsmod: u16, out: &mut [u8])
 }
 
 // Writes the frame that starts at a place of a capture as one burst.
-pub fn burst_write(capture: &[u8], place: usize, rows: &mut [i32], out: &mut [u8]) -> Answer
-    ensures { (result, (rows.new, out.new)) ≡ answers.written capture.now place rows.old out.old }
+pub fn burst_write(
+    capture: &[u8],
+    place: usize,
+    rows: &mut [i32],
+    out: &mut [u8],
+) -> Result<Written, Refused>
+    ensures { (result, (rows.new, out.new)) ≡ answers.burst_write capture.now place rows.old out.old }
 {
     let parsed = ac3::parse(capture, place, rows);
     let count = parsed.rows;
     if parsed.refusal != 0 {
-        return refused(parsed.refusal, count);
+        return Err(Refusal::Frame(parsed.refusal).after(count));
     }
     if out.len() < BURST {
-        return refused(NO_ROOM, count);
+        return Err(Refusal::NoRoom.after(count));
     }
-    let summary = parsed.summary;
-    let header = summary.header;
-    let end = place + header.bytes as usize;
+    let end = place + usize::from(parsed.summary.header.bytes);
     put(&capture[place..end], bsmod(rows, count), out);
-    Answer {
-        refusal: 0,
+    Ok(Written {
         rows: count,
         bytes: BURST as u16,
-    }
+    })
 }
 
 // ---- reading
@@ -106,65 +80,48 @@ fn word(s: &[u8], i: usize) -> usize
 fn opens(s: &[u8]) -> bool
     ensures { result ≡ opens s.now }
 {
-    if word(s, 0) != 0xF872 {
-        return false;
-    }
-    if word(s, 1) != 0x4E1F {
-        return false;
-    }
     let third = word(s, 2);
-    third == 1 + 256 * (third / 256 % 8)
+    word(s, 0) == 0xF872 && word(s, 1) == 0x4E1F && third == 1 + 256 * (third / 256 % 8)
 }
 
-// Whether all bytes from a place on are 0.
-fn zeros(s: &[u8], from: usize) -> bool
-    ensures { result ≡ all_zero (drop from s.now) }
+fn all_zero(s: &[u8]) -> bool
+    ensures { result ≡ all_zero s.now }
 {
-    let mut i = from;
-    while i < s.len() {
-        if s[i] != 0 {
-            return false;
-        }
-        i += 1;
-    }
-    true
+    s.iter().all(|&byte| byte == 0)
 }
 
 // Writes the frame of a burst.
-pub fn burst_read(burst: &[u8], rows: &mut [i32], out: &mut [u8]) -> Answer
-    ensures { (result, (rows.new, out.new)) ≡ answers.read burst.now rows.old out.old }
+pub fn burst_read(burst: &[u8], rows: &mut [i32], out: &mut [u8]) -> Result<Written, Refused>
+    ensures { (result, (rows.new, out.new)) ≡ answers.burst_read burst.now rows.old out.old }
 {
     if burst.len() != BURST {
-        return refused(NOT_A_BURST, 0);
+        return Err(Refusal::NotABurst.after(0));
     }
     if !opens(burst) {
-        return refused(WRONG_WORDS, 0);
+        return Err(Refusal::WrongWords.after(0));
     }
     let parsed = ac3::parse(burst, HEAD, rows);
     let count = parsed.rows;
     if parsed.refusal != 0 {
-        return refused(parsed.refusal, count);
+        return Err(Refusal::Frame(parsed.refusal).after(count));
     }
-    let summary = parsed.summary;
-    let header = summary.header;
-    let bytes = header.bytes as usize;
+    let bytes = usize::from(parsed.summary.header.bytes);
     if word(burst, 3) != 8 * bytes {
-        return refused(WRONG_LENGTH, count);
+        return Err(Refusal::WrongLength.after(count));
     }
     let end = HEAD + bytes;
-    if !zeros(burst, end) {
-        return refused(NOT_ZERO, count);
+    if !all_zero(&burst[end..]) {
+        return Err(Refusal::NotZero.after(count));
     }
-    if word(burst, 2) / 256 % 8 != bsmod(rows, count) as usize {
-        return refused(OTHER_MODE, count);
+    if word(burst, 2) / 256 % 8 != usize::from(bsmod(rows, count)) {
+        return Err(Refusal::OtherMode.after(count));
     }
     if out.len() < bytes {
-        return refused(NO_ROOM, count);
+        return Err(Refusal::NoRoom.after(count));
     }
     writer::copy(&burst[HEAD..end], out, 0);
-    Answer {
-        refusal: 0,
+    Ok(Written {
         rows: count,
-        bytes: header.bytes,
-    }
+        bytes: parsed.summary.header.bytes,
+    })
 }

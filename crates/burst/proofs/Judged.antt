@@ -155,9 +155,6 @@ module _ (burst : List ℕ) (rows : List ℤ) (out : List ℕ) where
         pub end_inside : head_bytes + size_of ≤ length burst
         end_inside = omega (arith, inside behind is ok, some behind is ok, length-drop head_bytes burst)
 
-        pub small : size_of ≤ longest
-        small = most behind is ok
-
         module _ (fourth : word_at burst 3 ≡ 8 * size_of) where
           abbrev long : eqb (word_at burst 3) (8 * size_of) ≡ true
           long = eq-eqb (word_at burst 3) (8 * size_of) fourth

@@ -7,8 +7,8 @@ use mathlib.Core.Path.{◌≡◌, refl, ap, sym, subst, ◌∙◌}
 use Prim.Native.Nat.{ℕ, zero, suc, ◌+◌, ◌-◌, ◌*◌, ◌/◌, ◌^◌, ◌≤◌, ◌<◌}
 use native.Mathlib.Nat.{mod-eq_of_lt}
 use native.Mathlib.Omega.{arith}
-use borrow.Author.Tests.{eq-eqb, eqb-true, lt-ltb}
-use lib.Dec.{T, eqb, leb, ltb}
+use borrow.Author.Tests.{lt-ltb}
+use lib.Dec.{T, leb, ltb}
 use lib.IntN.{ℤ, pos}
 use lib.ListN as list
 use lib.ListN.{length, get_or, take, drop, length-append, length-drop, length-set, take-append-drop}
@@ -48,9 +48,13 @@ use Rattle.mend.specs.Mends.{Field, Mended}
 use Rattle.mend.proofs.Frames.{in_frame}
 use Rattle.mend.proofs.Listing.{unchanged, four_changes}
 use Rattle.mend.proofs.Mends.{mends, one_crc1, front}
-use Rattle.level.specs.Level.{from_zero, words_of, refusal_for, dialnorm_of, dialnorm_width, position_column, position_in, Left, levelled, untouched, correct_to}
+use Rattle.level.specs.Level.{from_zero, words_of, check, refusal_for, dialnorm_of, dialnorm_width, position_column, position_in, levelled, left_by, correct, numbered, correct_to}
 use Rattle.level.specs.Corrected.{left, answer_in, changes_in, capture_in, afterwards, level_row, level_at, frame_words, crc1_row, value_of_row, Corrected, CorrectsLevel, RefusesUntouched}
-use Rattle.level.proofs.Refusing.{Fits, fits}
+use Rattle.level.specs.Level.{Left}
+use Rattle.level.specs.Refusals.{number_of}
+use Rattle.level.specs.declared.outcome.Refusal.{Refusal}
+use Rattle.std.specs.Prelude.{Result, Ok, Err}
+use Rattle.level.proofs.Refusing.{Fits, fits, passes}
 use Rattle.level.proofs.Where.{found, even_bytes}
 
 -- ---- the first row of a name
@@ -161,7 +165,7 @@ crc1_of s = row unsteering (roled Crc1 Name.crc1) 16 16 (value s 16 16)
 
 -- ---- a correction that is not refused
 
-module _ (c : Call) (programme level : ℕ) (changes : List ℤ) (free : refusal_for (answer_to c).0 programme level ≡ 0) where
+module _ (c : Call) (programme level : ℕ) (changes : List ℤ) (free : check (answer_to c).0 programme level ≡ Ok tt) where
   fit : Fits (answer_to c).0 programme level
   fit = fits (answer_to c).0 programme level free
 
@@ -237,9 +241,9 @@ module _ (c : Call) (programme level : ℕ) (changes : List ℤ) (free : refusal
   in_capture : c.place ≤ length c.capture
   in_capture = omega (arith, field.whole, some_words, length-drop c.place c.capture)
 
-  left_is : left c programme level changes ≡ levelled c (answer_to c) programme level changes
-  unfolding correct_to
-  left_is = rw (eq-eqb (refusal_for (answer_to c).0 programme level) 0 free)
+  left_is : left c programme level changes ≡ numbered (levelled c (answer_to c) programme level changes)
+  unfolding correct_to correct
+  left_is = ap (λ r. numbered (left_by c (answer_to c) programme level changes r)) free
 
   after_is : after_mend words (input c) at dialnorm_width level ≡ new
   after_is = in_frame words (input c) at dialnorm_width level some_words field.whole
@@ -338,8 +342,8 @@ module _ (c : Call) (programme level : ℕ) (changes : List ℤ) (free : refusal
     answer_same : (answer_to e).0 ≡ (answer_to c).0
     answer_same = same.answer ∙ ap (λ x. x.0) answer_after
 
-    free_again : refusal_for (answer_to e).0 programme level ≡ 0
-    free_again = ap (λ a. refusal_for a programme level) answer_same ∙ free
+    free_again : check (answer_to e).0 programme level ≡ Ok tt
+    free_again = ap (λ a. check a programme level) answer_same ∙ free
 
     -- dialnorm is where it was: its row's position is no value
     at_again : level_at e programme ≡ at
@@ -365,9 +369,9 @@ module _ (c : Call) (programme level : ℕ) (changes : List ℤ) (free : refusal
     nothing : mend.changes name (words_of (answer_to e).0) (input d) (level_at e programme) dialnorm_width level ≡ []
     nothing = unchanged name (words_of (answer_to e).0) (input d) (level_at e programme) dialnorm_width level as_before
 
-    second_is : left e programme level noted ≡ levelled e (answer_to e) programme level noted
-    unfolding correct_to
-    second_is = rw (eq-eqb (refusal_for (answer_to e).0 programme level) 0 free_again)
+    second_is : left e programme level noted ≡ numbered (levelled e (answer_to e) programme level noted)
+    unfolding correct_to correct
+    second_is = ap (λ r. numbered (left_by e (answer_to e) programme level noted r)) free_again
 
     again : left e programme level noted ≡ (record { refusal = 0; rows = row_count c; changes = 0 }, (noted, ((answer_to e).1, d.capture)))
     again =
@@ -396,30 +400,28 @@ module _ (c : Call) (programme level : ℕ) (changes : List ℤ) (free : refusal
 -- ---- the statements
 
 module _ (c : Call) (programme level : ℕ) (changes : List ℤ) where
-  abbrev refusal : ℕ
-  refusal = refusal_for (answer_to c).0 programme level
+  abbrev after : Result (Unit {0}) Refusal → Left
+  after r = numbered (left_by c (answer_to c) programme level changes r)
 
-  abbrev either : Bool → Left
-  either free = cond free (levelled c (answer_to c) programme level changes) (untouched c (answer_to c) refusal changes)
+  told : (r : Result (Unit {0}) Refusal) → (answer_in (after r)).refusal ≡ number_of r
+  told (Ok fine) = refl
+  told (Err refusal) = refl
 
-  told : (free : Bool) → eqb refusal 0 ≡ free → (answer_in (either free)).refusal ≡ refusal
-  told true e = sym (eqb-true refusal 0 e)
-  told false e = refl
+  refusal_is : (answer_in (left c programme level changes)).refusal ≡ refusal_for (answer_to c).0 programme level
+  unfolding correct_to correct
+  refusal_is = told (check (answer_to c).0 programme level)
 
-  refusal_is : (answer_in (left c programme level changes)).refusal ≡ refusal
-  unfolding correct_to
-  refusal_is = told (eqb refusal 0) refl
-
-  as_it_was : (free : Bool) → ¬ ((answer_in (either free)).refusal ≡ 0) → (capture_in (either free) ≡ c.capture) × (changes_in (either free) ≡ changes)
-  as_it_was true refused = absurd (refused refl)
-  as_it_was false refused = (refl, refl)
+  as_it_was : (r : Result (Unit {0}) Refusal) → ¬ ((answer_in (after r)).refusal ≡ 0) → (capture_in (after r) ≡ c.capture) × (changes_in (after r) ≡ changes)
+  as_it_was (Ok fine) refused = absurd (refused refl)
+  as_it_was (Err refusal) refused = (refl, refl)
 
   left_as_it_was : ¬ ((answer_in (left c programme level changes)).refusal ≡ 0) → (capture_in (left c programme level changes) ≡ c.capture) × (changes_in (left c programme level changes) ≡ changes)
-  unfolding correct_to
-  left_as_it_was refused = as_it_was (eqb refusal 0) refused
+  unfolding correct_to correct
+  left_as_it_was refused = as_it_was (check (answer_to c).0 programme level) refused
 
 pub corrects_level : CorrectsLevel
-corrects_level c programme level changes free = corrected c programme level changes (sym (refusal_is c programme level changes) ∙ free)
+corrects_level c programme level changes free =
+    corrected c programme level changes (passes (answer_to c).0 programme level (sym (refusal_is c programme level changes) ∙ free))
 
 pub refuses_untouched : RefusesUntouched
 refuses_untouched = left_as_it_was

@@ -1,21 +1,20 @@
 -- What is left where a parse has this answer and this room: the checks are the definition's, and what is written into the part from the
 -- place on is written into the capture. Assumes nothing.
 use mathlib.Core.List.{List, ◌++◌, append-nil}
-use mathlib.Core.Path.{◌≡◌, ap, ◌∙◌}
+use mathlib.Core.Path.{◌≡◌, sym, ap, ◌∙◌}
 use Prim.Native.Nat.{ℕ, ◌-◌, ◌/◌, ◌≤◌}
 use native.Mathlib.Omega.{arith}
-use borrow.Author.Tests.{eq-eqb, ne_eqb}
 use borrow.Rule.Slice.PartMut.{put_mid}
 use lib.IntN.{ℤ}
 use lib.ListN.{length, take, drop, length-drop, drop_of_length-le}
 use lib.Seq.{sets, take_all}
 use Rattle.ac3.specs.Promise.{Call, call, answer_to}
-use Rattle.ac3.specs.Within.{Within}
 use Rattle.ac3.specs.declared.Answer as parse
 use Rattle.mend.specs.Mend.{after_mend}
 use Rattle.mend.specs.Changes as mend
-use Rattle.level.specs.Level.{words_of, refusal_for, dialnorm_of, dialnorm_width, position_in, levelled, untouched, left_by, correct_to}
-use Rattle.level.proofs.Refusing.{fits}
+use Rattle.level.specs.Level.{words_of, check, dialnorm_of, dialnorm_width, position_in, levelled, left_by, correct}
+use Rattle.level.specs.declared.outcome.Refusal.{Refusal}
+use Rattle.std.specs.Prelude.{Ok, Err}
 
 -- all from the place on was lent
 all_lent : (capture : List ℕ) (place : ℕ) → take (length capture - place) (drop place capture) ≡ drop place capture
@@ -31,29 +30,24 @@ module _ (capture : List ℕ) (place programme level : ℕ) (rows changes : List
   abbrev here : Call
   here = call capture place rows
 
-  as_told : left_by here (a, after) programme level changes ≡ correct_to capture place programme level rows changes
-  unfolding correct_to
-  as_told = ap (λ x. left_by here x programme level changes) is
+  as_told : left_by here (a, after) programme level changes (check a programme level) ≡ correct capture place programme level rows changes
+  unfolding correct
+  as_told = ap (λ x. left_by here x programme level changes (check x.0 programme level)) is
 
-  pub refused : {r : ℕ} → r ≡ refusal_for a programme level → ¬ (r ≡ 0)
-      → (record { refusal = r; rows = a.rows; changes = 0 }, (changes, (after, capture))) ≡ correct_to capture place programme level rows changes
-  refused {r} e h =
-      (ap (λ r. untouched here (a, after) r changes) e ∙ rw (ne_eqb (refusal_for a programme level) 0 (λ z. h (e ∙ z)))) ∙ as_told
+  pub refused : {r : Refusal} → check a programme level ≡ Err r
+      → (Err (record { refusal = r; rows = a.rows }), (changes, (after, capture))) ≡ correct capture place programme level rows changes
+  refused e = sym (ap (left_by here (a, after) programme level changes) e) ∙ as_told
 
-  not_refused : refusal_for a programme level ≡ 0 → levelled here (a, after) programme level changes ≡ left_by here (a, after) programme level changes
-  not_refused e = rw (eq-eqb (refusal_for a programme level) 0 e)
+  not_refused : check a programme level ≡ Ok tt → levelled here (a, after) programme level changes ≡ left_by here (a, after) programme level changes (check a programme level)
+  not_refused e = sym (ap (left_by here (a, after) programme level changes) e)
 
-  -- the place is in the capture
-  pub in_capture : refusal_for a programme level ≡ 0 → Within here a after → place ≤ length capture
-  in_capture e within = let f = fits a programme level e in omega (arith, within.frame f.accepted, f.in_time, length-drop place capture)
-
-  pub corrected : {name at n : ℕ} {list : List ℤ} {part : List ℕ} → refusal_for a programme level ≡ 0
+  pub corrected : {name at n : ℕ} {list : List ℤ} {part : List ℕ} → check a programme level ≡ Ok tt
       → name ≡ dialnorm_of programme → at ≡ position_in a.rows name after
       → part ≡ after_mend (words_of a) (take (length capture - place) (drop place capture)) at dialnorm_width level
       → list ≡ sets changes 0 (mend.changes name (words_of a) (take (length capture - place) (drop place capture)) at dialnorm_width level)
       → n ≡ length (mend.changes name (words_of a) (take (length capture - place) (drop place capture)) at dialnorm_width level) / 3
-      → (record { refusal = 0; rows = a.rows; changes = n }, (list, (after, put_mid place (length capture - place) capture part)))
-      ≡ correct_to capture place programme level rows changes
+      → (Ok (record { rows = a.rows; changes = n }), (list, (after, put_mid place (length capture - place) capture part)))
+      ≡ correct capture place programme level rows changes
   corrected {name} {at} {n} {list} {part} e named placed written noted counted =
       let all = all_lent capture place in
       let there : at ≡ position_in a.rows (dialnorm_of programme) after = placed ∙ ap (λ m. position_in a.rows m after) named in
@@ -63,4 +57,4 @@ module _ (capture : List ℕ) (place programme level : ℕ) (rows changes : List
       = λ j. mend.changes (named j) (words_of a) (all j) (there j) dialnorm_width level in
       let count = counted ∙ ap (λ l. length l / 3) new in
       let listed = noted ∙ ap (sets changes 0) new in
-      (λ j. (record { refusal = 0; rows = a.rows; changes = count j }, (listed j, (after, left j)))) ∙ not_refused e ∙ as_told
+      (λ j. (Ok (record { rows = a.rows; changes = count j }), (listed j, (after, left j)))) ∙ not_refused e ∙ as_told

@@ -11,8 +11,7 @@ use Rattle.rows.specs.Look.{value_column, first}
 use Rattle.mend.specs.Changes.{fields_of, changes_of}
 use Rattle.mend.specs.Mend.{FirstIsZero, WholeIsZero}
 use Rattle.mend.specs.Mends.{Outside}
-use Rattle.level.specs.Level.{words_of, dialnorm_of, dialnorm_width, position_in, Left, correct_to}
-use Rattle.level.specs.declared.Answer.{Answer}
+use Rattle.level.specs.Level.{words_of, dialnorm_of, dialnorm_width, position_in, Answer, Left, correct_to}
 
 -- ---- what the caller holds
 

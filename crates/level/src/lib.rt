@@ -2,11 +2,14 @@
 // listed.
 #![tactic(auto)]
 
+mod outcome;
+
 ghost use Rattle.std.specs.Prelude.{◌≡◌, ◌<◌, ◌≤◌};
-ghost use Rattle.level.specs.Level.{from_zero, is_present, is_level, ends_in_time, refusal_for, dialnorm_of, position_in, correct_to};
+ghost use Rattle.level.specs.Level.{from_zero, is_present, is_level, ends_in_time, check, dialnorm_of, position_in, correct};
 
 use ac3::Answer as Parsed;
 use header::programmes;
+pub use outcome::{Correction, Refusal, Refused};
 use syntax::ROW;
 use syntax::names::DIALNORM;
 
@@ -14,21 +17,6 @@ use syntax::names::DIALNORM;
 const POSITION: usize = 5;
 
 const DIALNORM_WIDTH: usize = 5;
-
-// The refusals (the table of docs/FORMAT.md).
-const NO_PROGRAMME: u8 = 50;
-
-const NO_LEVEL: u8 = 51;
-
-const ENDS_LATE: u8 = 52;
-
-// Parsing's refusal or one of those above, the rows that the parse left, and how many changes were listed.
-#[derive(Drop)]
-pub struct Answer {
-    pub refusal: u8,
-    pub rows: usize,
-    pub changes: usize,
-}
 
 // Operators count programmes from one, the parser from zero. One is subtracted here and nowhere else.
 fn from_zero(programme: usize) -> usize
@@ -41,45 +29,38 @@ fn from_zero(programme: usize) -> usize
 fn is_present(acmod: u8, programme: usize) -> bool
     ensures { result ≡ is_present acmod programme }
 {
-    if programme == 0 {
-        return false;
-    }
-    from_zero(programme) < programmes(acmod) as usize
+    0 < programme && from_zero(programme) < usize::from(programmes(acmod))
 }
 
 fn is_level(level: usize) -> bool
     ensures { result ≡ is_level level }
 {
-    if level == 0 {
-        return false;
-    }
-    level <= 31
+    1 <= level && level <= 31
 }
 
 fn ends_in_time(parsed: Parsed) -> bool
     ensures { result ≡ ends_in_time parsed }
 {
-    let summary = parsed.summary;
-    let header = summary.header;
-    summary.end as usize + 18 <= (header.bytes / 2) as usize * 16
+    usize::from(parsed.summary.end) + 18 <= usize::from(parsed.summary.header.bytes / 2) * 16
 }
 
-// The first refusal there is; 0 where there is none.
-fn refusal_for(parsed: Parsed, programme: usize, level: usize) -> u8
-    ensures { result ≡ refusal_for parsed programme level }
+// The first refusal there is.
+fn check(parsed: Parsed, programme: usize, level: usize) -> Result<(), Refusal>
+    ensures { result ≡ check parsed programme level }
 {
     if parsed.refusal != 0 {
-        return parsed.refusal;
+        return Err(Refusal::Frame(parsed.refusal));
     }
-    let summary = parsed.summary;
-    let header = summary.header;
-    if !is_present(header.acmod, programme) {
-        return NO_PROGRAMME;
+    if !is_present(parsed.summary.header.acmod, programme) {
+        return Err(Refusal::NoProgramme);
     }
     if !is_level(level) {
-        return NO_LEVEL;
+        return Err(Refusal::NoLevel);
     }
-    if ends_in_time(parsed) { 0 } else { ENDS_LATE }
+    if !ends_in_time(parsed) {
+        return Err(Refusal::EndsLate);
+    }
+    Ok(())
 }
 
 // The name of a programme's dialnorm. The second one's stands eight further on.
@@ -110,35 +91,30 @@ pub fn correct(
     level: usize,
     rows: &mut [i32],
     changes: &mut [i32; 12],
-) -> Answer
-    ensures { (result, (changes.new, (rows.new, capture.new))) ≡ correct_to capture.old place programme level rows.old changes.old }
+) -> Result<Correction, Refused>
+    ensures { (result, (changes.new, (rows.new, capture.new))) ≡ correct capture.old place programme level rows.old changes.old }
 {
     let parsed = ac3::parse(capture, place, rows);
     let count = parsed.rows;
-    let refusal = refusal_for(parsed, programme, level);
-    if refusal != 0 {
-        return Answer {
+    if let Err(refusal) = check(parsed, programme, level) {
+        return Err(Refused {
             refusal,
             rows: count,
-            changes: 0,
-        };
+        });
     }
-    let summary = parsed.summary;
-    let header = summary.header;
     let name = dialnorm_of(programme);
     let at = position(rows, count, name);
     let listed = mend::mend(
         &mut capture[place..],
-        header.bytes,
+        parsed.summary.header.bytes,
         at,
         DIALNORM_WIDTH,
         level as u32,
         name,
         changes,
     );
-    Answer {
-        refusal: 0,
+    Ok(Correction {
         rows: count,
         changes: listed,
-    }
+    })
 }

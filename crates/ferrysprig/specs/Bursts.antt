@@ -1,6 +1,6 @@
 -- An answer about a burst as three numbers: the refusal, the rows that the parse left, the bytes written.
 use Rattle.std.specs.Prelude.{List, [], ◌∷◌, map, ℕ, ℤ, pos}
-use Rattle.burst.specs.declared.Answer.{Answer}
+use Rattle.burst.specs.Answers.{Answer}
 
 unfoldable pub burst_in_order : Answer → List ℕ
 burst_in_order a = a.refusal ∷ a.rows ∷ a.bytes ∷ []

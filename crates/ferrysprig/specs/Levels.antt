@@ -1,7 +1,6 @@
 -- An answer about a level correction as three numbers: the refusal, the rows that the parse left, the changes listed.
 use Rattle.std.specs.Prelude.{List, [], ◌∷◌, ℕ, ℤ, pos}
-use Rattle.level.specs.Level.{Left}
-use Rattle.level.specs.declared.Answer.{Answer}
+use Rattle.level.specs.Level.{Answer, Left}
 
 unfoldable pub level_numbers : Answer → List ℤ
 level_numbers a = pos a.refusal ∷ pos a.rows ∷ pos a.changes ∷ []

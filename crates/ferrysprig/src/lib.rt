@@ -21,9 +21,10 @@ ghost use Rattle.salvage.specs.Lent.{salvaged};
 ghost use Rattle.index.specs.Index.{indexed};
 ghost use Rattle.aht.specs.Aht.{aht_of};
 ghost use Rattle.ferrysprig.specs.Aht.{aht_numbers};
+ghost use Rattle.level.specs.Level as levels;
 ghost use Rattle.level.specs.Level.{correct_to};
 ghost use Rattle.profile.specs.Answers.{numbers_of, profile_to};
-ghost use Rattle.ferrysprig.specs.Bursts.{burst_in_order, burst_numbers, burst_told};
+ghost use Rattle.ferrysprig.specs.Bursts.{burst_numbers, burst_told};
 ghost use Rattle.ferrysprig.specs.Levels.{level_numbers, level_told};
 ghost use Rattle.ferrysprig.specs.Numbers.{flag, in_order, answer_numbers, told};
 ghost use Rattle.ferrysprig.specs.Profiles.{profile_in_order, profile_numbers, profile_told};
@@ -160,22 +161,15 @@ pub fn ferrysprig_range_eq(x: &[u8], a: usize, y: &[u8], b: usize, n: usize) -> 
     bits::range_eq(x, a, y, b, n)
 }
 
-// The numbers of an answer about a burst in their order.
-fn burst_in_order(a: burst::Answer) -> [u16; BURST_ANSWER]
-    requires { a.rows ≤ most_rows }
-    ensures { result ≡ burst_in_order a }
+// The numbers of an answer about a burst. None is large: no frame has more than 4,067 rows.
+fn burst_numbers(answer: Result<burst::Written, burst::Refused>) -> [i32; BURST_ANSWER]
+    requires { (bursts.told answer).rows ≤ most_rows }
+    ensures { result ≡ burst_numbers (bursts.told answer) }
 {
-    [a.refusal as u16, a.rows as u16, a.bytes]
-}
-
-fn burst_numbers(a: burst::Answer) -> [i32; BURST_ANSWER]
-    requires { a.rows ≤ most_rows }
-    ensures { result ≡ burst_numbers a }
-{
-    let small = burst_in_order(a);
-    let mut out = [0i32; BURST_ANSWER];
-    writer::numbers(&small, &mut out);
-    out
+    match answer {
+        Ok(written) => [0, written.rows as i32, i32::from(written.bytes)],
+        Err(refused) => [i32::from(refused.refusal.number()), refused.rows as i32, 0],
+    }
 }
 
 // Writes the frame at a place of a capture as one IEC 61937 burst of 6,144 bytes, and the answer's numbers.
@@ -220,7 +214,10 @@ pub fn ferrysprig_set(
 ) -> u8
     ensures { (result, capture.new) ≡ edits.set capture.old place position width value }
 {
-    edits::set(capture, place, position, width, value)
+    match edits::set(capture, place, position, width, value) {
+        Ok(()) => 0,
+        Err(refusal) => refusal.number(),
+    }
 }
 
 // The numbers of an answer about a salvage. They count entries and bytes of a capture, so they are as wide as places are.
@@ -316,11 +313,14 @@ pub fn ferrysprig_profile(
 }
 
 // The numbers of an answer about a level. None is large: no frame has more than 4,067 rows.
-fn level_numbers(a: level::Answer) -> [i32; LEVEL_ANSWER]
-    requires { (a.rows ≤ most_rows) × (a.changes ≤ 4) }
-    ensures { result ≡ level_numbers a }
+fn level_numbers(answer: Result<level::Correction, level::Refused>) -> [i32; LEVEL_ANSWER]
+    requires { ((levels.told answer).rows ≤ most_rows) × ((levels.told answer).changes ≤ 4) }
+    ensures { result ≡ level_numbers (levels.told answer) }
 {
-    [a.refusal as i32, a.rows as i32, a.changes as i32]
+    match answer {
+        Ok(correction) => [0, correction.rows as i32, correction.changes as i32],
+        Err(refused) => [i32::from(refused.refusal.number()), refused.rows as i32, 0],
+    }
 }
 
 // Corrects the level of a programme, counted from 1, in the frame at a place of a capture, lists what changed, three numbers to a change

@@ -1,5 +1,4 @@
 pub mod Numbered
-pub mod InRow
 pub mod Judging
 pub mod Profiled
 pub mod Few

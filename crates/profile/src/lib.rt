@@ -10,7 +10,6 @@ ghost use Rattle.profile.specs.Answers.{numbers_of, profile_to};
 
 use header::Header;
 use syntax::ROW;
-use syntax::elements::and_not;
 use syntax::names::{ACMOD, BSID, DELTBAIE, DIALNORM, FRMSIZECOD, FSCOD, LFEON};
 
 // Which number of a row is its value.
@@ -20,7 +19,7 @@ const VALUE: usize = 7;
 const LEAST_BYTES: u16 = 768;
 
 // The parse's refusal; or no rule is broken; or the first rule that is, counted from 1, and the first row that breaks it, from 0.
-#[derive(Drop)]
+#[derive(Clone, Copy, Debug, PartialEq, Eq)]
 pub enum Verdict {
     Refused(u8),
     Within,
@@ -28,14 +27,14 @@ pub enum Verdict {
 }
 
 // And the rows that the parse left.
-#[derive(Drop)]
+#[derive(Clone, Copy, Debug, PartialEq, Eq)]
 pub struct Answer {
     pub rows: usize,
     pub verdict: Verdict,
 }
 
 // A verdict as numbers: 0 for what it does not have. (Public for the exported function, which can tell numbers only.)
-#[derive(Drop)]
+#[derive(Clone, Copy, Debug, PartialEq, Eq)]
 pub struct Numbers {
     pub refusal: u8,
     pub rule: u8,
@@ -87,10 +86,10 @@ fn breaks(number: u8, header: Header, value: usize) -> bool
 {
     match number {
         0 => value != 0,
-        1 => and_not(value != 2, value == 7),
-        2 => and_not(value != 6, value == 8),
+        1 => value != 2 && value != 7,
+        2 => value != 6 && value != 8,
         3 => header.bytes < LEAST_BYTES,
-        4 => and_not(value == 1, header.acmod == 7),
+        4 => value == 1 && header.acmod != 7,
         5 => value == 1,
         _ => value == 0,
     }
@@ -101,10 +100,8 @@ fn broken(rows: &[i32], i: usize, header: Header, number: u8) -> bool
     requires { (number < 7) × (i * row_width + row_width ≤ length rows.now) }
     ensures { result ≡ broken_in header (rule number) (drop (i * row_width) rows.now) }
 {
-    if rows[i * ROW] != field(number) as i32 {
-        return false;
-    }
-    breaks(number, header, rows::natural(rows[i * ROW + VALUE]))
+    rows[i * ROW] == i32::from(field(number))
+        && breaks(number, header, rows::natural(rows[i * ROW + VALUE]))
 }
 
 // The first of the first `count` rows that does; `count` where none does.
@@ -112,13 +109,10 @@ fn first_broken(rows: &[i32], count: usize, header: Header, number: u8) -> usize
     requires { number < 7 }
     ensures { result ≡ first_where (broken_in header (rule number)) count rows.now }
 {
-    let n = naturals::least(count, rows.len() / ROW);
-    let mut i = 0;
-    while i < n {
+    for i in 0..count.min(rows.len() / ROW) {
         if broken(rows, i, header, number) {
             return i;
         }
-        i += 1;
     }
     count
 }
@@ -148,10 +142,8 @@ pub fn profile(capture: &[u8], place: usize, rows: &mut [i32]) -> Answer
             verdict: Verdict::Refused(parsed.refusal),
         };
     }
-    let summary = parsed.summary;
-    let header = summary.header;
     Answer {
         rows: count,
-        verdict: judged(rows, count, header),
+        verdict: judged(rows, count, parsed.summary.header),
     }
 }

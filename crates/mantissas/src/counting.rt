@@ -48,7 +48,7 @@ pub fn weights() -> [u64; 16]
     ]
 }
 
-// The mantissas of some bins, by their addresses (6.2.2.7).
+// The mantissas of some bins, by their addresses (6.2.2.7). By index: nothing says that a slot ends past its start, as a slice of it would ask.
 pub fn count_bins(addresses: &[u8; 256], start: usize, end: usize) -> Counts
     requires { (end ≤ 253) × ((bin : ℕ) → start ≤ bin → bin < end → get_or addresses.now bin 0 < 64) }
     ensures { result ≡ counted_all no_counts (from start (end - start) (bap_at bap addresses.now)) }

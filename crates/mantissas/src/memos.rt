@@ -43,7 +43,7 @@ pub fn forget_new(memos: &mut [[u32; 16]; 7], strategies: Strategies)
 
 // ---- kept
 
-// The numbers of a memo that say what was counted.
+// So many numbers of a memo say what its counts go by.
 const BASIS: usize = 12;
 
 // What the pointers of a slot without delta segments go by, besides its exponents; and then what was counted.

@@ -12,7 +12,7 @@ use crate::pointers::part_pointers;
 use crate::{Counts, Parts, Setting};
 use syntax::{Item, Reader, Refusal};
 
-// A mantissa takes as many bits as the total grows by.
+// A mantissa takes as many bits as the total grows by. By index: nothing says that a slot ends past its start, as a slice of it would ask.
 fn walk_bins(
     r: &mut Reader<'_>,
     item: Item,

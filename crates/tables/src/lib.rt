@@ -105,46 +105,46 @@ pub fn gaq_bits(index: u8) -> usize
     entry(&entries::GAQ_BITS, index, 0)
 }
 
-// The tables that loops look into are handed out whole, once a call, so that no goal of a loop has the entries written out.
+// The tables that loops look into are lent whole, so that no goal of a loop has the entries written out.
 
 // Table 6.12: the first bin past each of the 50 bands.
-pub fn band_ends() -> [u8; 50]
-    ensures { result ≡ standard.band_end }
+pub fn band_ends() -> &'static [u8; 50]
+    ensures { result.now ≡ standard.band_end }
 {
-    entries::BAND_END
+    &entries::BAND_END
 }
 
 // Table 6.14: what the smaller of two levels adds to the larger, by half their distance.
-pub fn log_adds() -> [u8; 256]
-    ensures { result ≡ standard.log_add }
+pub fn log_adds() -> &'static [u8; 256]
+    ensures { result.now ≡ standard.log_add }
 {
-    entries::LOG_ADD
+    &entries::LOG_ADD
 }
 
 // Table 6.15: 50 bands to each fscod.
-pub fn hearing_thresholds() -> [u16; 150]
-    ensures { result ≡ standard.hearing }
+pub fn hearing_thresholds() -> &'static [u16; 150]
+    ensures { result.now ≡ standard.hearing }
 {
-    entries::HEARING
+    &entries::HEARING
 }
 
 // Table 6.16: by the clamped address.
-pub fn bit_allocation_pointers() -> [u8; 64]
-    ensures { result ≡ standard.bap }
+pub fn bit_allocation_pointers() -> &'static [u8; 64]
+    ensures { result.now ≡ standard.bap }
 {
-    entries::BAP
+    &entries::BAP
 }
 
 // E.2.4.3.1: the same for the adaptive hybrid transform, by the same address.
-pub fn high_efficiency_pointers() -> [u8; 64]
-    ensures { result ≡ standard.hebap }
+pub fn high_efficiency_pointers() -> &'static [u8; 64]
+    ensures { result.now ≡ standard.hebap }
 {
-    entries::HEBAP
+    &entries::HEBAP
 }
 
 // Table 6.17: the bits of a mantissa that stands alone, by its bap.
-pub fn mantissa_bits() -> [u8; 16]
-    ensures { result ≡ standard.mantissa_bits }
+pub fn mantissa_bits() -> &'static [u8; 16]
+    ensures { result.now ≡ standard.mantissa_bits }
 {
-    entries::BAP_BITS
+    &entries::BAP_BITS
 }

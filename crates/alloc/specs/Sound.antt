@@ -10,6 +10,10 @@ use Rattle.alloc.specs.declared.Parameters.{Parameters}
 abbrev pub Exponents : List ℤ → Type 0
 Exponents exponents = (bin : ℕ) → (pos 0 ≤ℤ at exponents bin) × (at exponents bin ≤ℤ pos 24)
 
+-- every level is below so many bits
+abbrev pub Every : (bits : ℕ) → List ℤ → Type 0
+Every bits levels = (k : ℕ) → Below bits (at levels k)
+
 pub record SoundParameters (p : Parameters) : Type 0 where
   pub end : p.end ≤ 253
   pub fscod : p.fscod < 3

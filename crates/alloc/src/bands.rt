@@ -7,23 +7,16 @@ ghost use Rattle.alloc.specs.Allocation.{logadd, psd_at, band_sum, start_of, end
 ghost use Rattle.alloc.specs.Sound.{Exponents};
 ghost use Rattle.alloc.specs.Fills.{Fills};
 ghost use Rattle.alloc.specs.Stages.{relative_at};
-ghost use Rattle.alloc.specs.Band.{InBand};
+ghost use Rattle.alloc.specs.Band.{InBand, Spans};
 
+use crate::Parameters;
 use crate::psd::{drop, level, relative};
-use crate::wide;
-
-// A byte as a level, with its bound.
-fn as_level(x: u8) -> i32
-    ensures { (result ≡ pos x) × Below 8 result }
-{
-    x as i32
-}
 
 // Whether a level is the larger of two, and not so far above the other that it hides it.
 fn is_near(distance: i32) -> bool
     ensures { result ≡ (le_z (pos 0) distance && lt_z distance (pos 512)) }
 {
-    0 <= distance && distance < 512
+    (0..512).contains(&distance)
 }
 
 // What the table has at half a distance.
@@ -31,7 +24,7 @@ fn added(adds: &[u8; 256], distance: i32) -> i32
     requires { (adds.now ≡ log_add) × T (non_neg distance) × (nat_abs distance < 512) }
     ensures { (result ≡ pos (get_or log_add (nat_abs distance / 2) 0)) × Below 8 result }
 {
-    as_level(adds[distance as usize / 2])
+    i32::from(adds[distance as usize / 2])
 }
 
 // The sum of two levels, of which the second is given by how far it is below 0: so each arm is an addition or a subtraction of its own, and the
@@ -138,15 +131,14 @@ fn band_level(
     adds: &[u8; 256],
     ends: &[u8; 50],
     exponents: &[i16; 256],
-    start: usize,
-    end: usize,
+    p: &Parameters,
     band: usize,
 ) -> i32
-    requires { (adds.now ≡ log_add) × (ends.now ≡ band_end) × Exponents exponents.now × (0 < band) × (band < 50) × (start_of band < end) × (start < end_of band) × (start < end) × (end ≤ 253) }
-    ensures { result ≡ band_psd (psd_at exponents.now) start end band }
+    requires { (adds.now ≡ log_add) × (ends.now ≡ band_end) × Exponents exponents.now × (0 < band) × (band < 50) × (start_of band < p.now.end) × (p.now.start < end_of band) × (p.now.start < p.now.end) × (p.now.end ≤ 253) }
+    ensures { result ≡ band_psd (psd_at exponents.now) p.now.start p.now.end band }
 {
-    let first = naturals::most(start, wide(ends[band - 1]));
-    let last = naturals::least(end, wide(ends[band]));
+    let first = p.start.max(usize::from(ends[band - 1]));
+    let last = p.end.min(usize::from(ends[band]));
     sum_levels(adds, exponents, first, last)
 }
 
@@ -155,17 +147,16 @@ fn wide_levels(
     out: &mut [i32; 50],
     ends: &[u8; 50],
     exponents: &[i16; 256],
-    start: usize,
-    end: usize,
+    p: &Parameters,
     first: usize,
     last: usize,
 )
-    requires { (length out.old ≡ 50) × (ends.now ≡ band_end) × Exponents exponents.now × (0 < first) × (first < last) × (last ≤ 50) × (start_of (last - 1) < end) × (start < end_of first) × (start < end) × (end ≤ 253) }
-    ensures { Fills (pos 0) first last (band_psd (psd_at exponents.now) start end) out.old out.new }
+    requires { (length out.old ≡ 50) × (ends.now ≡ band_end) × Exponents exponents.now × (0 < first) × (first < last) × (last ≤ 50) × (start_of (last - 1) < p.now.end) × (p.now.start < end_of first) × (p.now.start < p.now.end) × (p.now.end ≤ 253) }
+    ensures { Fills (pos 0) first last (band_psd (psd_at exponents.now) p.now.start p.now.end) out.old out.new }
 {
     let adds = tables::log_adds();
     for band in first..last {
-        out[band] = band_level(&adds, ends, exponents, start, end, band);
+        out[band] = band_level(adds, ends, exponents, p, band);
     }
 }
 
@@ -174,18 +165,17 @@ pub fn band_levels(
     out: &mut [i32; 50],
     ends: &[u8; 50],
     exponents: &[i16; 256],
-    start: usize,
-    end: usize,
+    p: &Parameters,
     first: usize,
     last: usize,
 )
-    requires { (length out.old ≡ 50) × (ends.now ≡ band_end) × Exponents exponents.now × InBand start first × InBand (end - 1) (last - 1) × (0 < last) × (start < end) × (end ≤ 253) }
-    ensures { Fills (pos 0) first last (band_psd (psd_at exponents.now) start end) out.old out.new }
+    requires { (length out.old ≡ 50) × (ends.now ≡ band_end) × Exponents exponents.now × Spans p.now.start p.now.end first last × (p.now.end ≤ 253) }
+    ensures { Fills (pos 0) first last (band_psd (psd_at exponents.now) p.now.start p.now.end) out.old out.new }
 {
-    let split = naturals::least(last, naturals::most(first, 28));
+    let split = last.min(first.max(28));
     narrow_levels(&mut *out, exponents, first, split);
     if last <= split {
         return;
     }
-    wide_levels(&mut *out, ends, exponents, start, end, split, last);
+    wide_levels(&mut *out, ends, exponents, p, split, last);
 }

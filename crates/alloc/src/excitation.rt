@@ -2,7 +2,7 @@
 ghost use Rattle.std.specs.Prelude.{◌≡◌, ℕ, ◌-◌, ◌≤◌, ◌<◌, pos, length};
 ghost use Rattle.signed.specs.Bound.{Below};
 ghost use Rattle.alloc.specs.Allocation.{at, lowcomp, lfe_last, low_after, rises, fall_to, starts_anew, start_leak, fall_by, leak_step, leak_before};
-ghost use Rattle.alloc.specs.Sound.{SoundParameters, Bounded};
+ghost use Rattle.alloc.specs.Sound.{SoundParameters, Bounded, Every};
 ghost use Rattle.alloc.specs.Fills.{Fills};
 ghost use Rattle.alloc.specs.Leaks.{leak_after, excite_at};
 
@@ -17,9 +17,9 @@ fn calc_lowcomp(a: i32, b0: i32, b1: i32, bin: usize) -> i32
         if b0 + 256 == b1 {
             return if bin < 7 { 384 } else { 320 };
         }
-        return if b1 < b0 { signed::max(a - 64, 0) } else { a };
+        return if b1 < b0 { (a - 64).max(0) } else { a };
     }
-    signed::max(a - 128, 0)
+    (a - 128).max(0)
 }
 
 // The leaks start anew.
@@ -44,7 +44,7 @@ fn fall_to(leak: i32, decay: u16, floor: i32) -> i32
     requires { Below 17 leak × Below 17 floor }
     ensures { result ≡ fall_to leak decay floor }
 {
-    signed::max(leak - decay as i32, floor)
+    (leak - decay as i32).max(floor)
 }
 
 // The leaks fall by one band; the excitation is the larger of them, the fast one less the compensation where it counts.
@@ -54,14 +54,12 @@ fn fall_leak(g: Gains, here: i32, low: i32, less: i32, l: Leak) -> Leak
 {
     let fast = fall_to(l.fast, g.fdecay, here - g.fgain as i32);
     let slow = fall_to(l.slow, g.sdecay, here - g.sgain as i32);
-    let excite = signed::max(fast - less, slow);
-    let risen = l.risen;
     Leak {
         fast,
         slow,
         low,
-        excite,
-        risen,
+        excite: (fast - less).max(slow),
+        risen: l.risen,
     }
 }
 
@@ -74,7 +72,7 @@ fn lfe_last(count: usize, band: usize) -> bool
 
 // The compensation after a band.
 fn low_after(bands: &[i32; 50], count: usize, band: usize, low: i32) -> i32
-    requires { (band < 22) × Below 9 low × ((k : ℕ) → Below 15 (at bands.now k)) }
+    requires { (band < 22) × Below 9 low × Every 15 bands.now }
     ensures { result ≡ low_after (at bands.now) count band low }
 {
     if lfe_last(count, band) {
@@ -97,7 +95,7 @@ fn is_rise(bands: &[i32; 50], count: usize, band: usize) -> bool
     bands[band] <= bands[band + 1]
 }
 
-// The first phase.
+// The first phase. A function of its own, as the definition has it: a test of two parts is joined in it, and not in each path after it.
 fn starts_anew(band: usize, risen: bool) -> bool
     ensures { result ≡ starts_anew band risen }
 {
@@ -106,7 +104,7 @@ fn starts_anew(band: usize, risen: bool) -> bool
 
 // One band below 22.
 fn leak_step(g: Gains, bands: &[i32; 50], count: usize, band: usize, l: Leak) -> Leak
-    requires { (band < 22) × Bounded l × ((k : ℕ) → Below 15 (at bands.now k)) }
+    requires { (band < 22) × Bounded l × Every 15 bands.now }
     ensures { result ≡ leak_step g (at bands.now) count band l }
 {
     let here = bands[band];
@@ -120,7 +118,7 @@ fn leak_step(g: Gains, bands: &[i32; 50], count: usize, band: usize, l: Leak) ->
 
 // One band from 7 to 21: the leaks do not start anew, and there is a next band, so neither is tested for.
 fn middle_step(g: Gains, bands: &[i32; 50], band: usize, l: Leak) -> Leak
-    requires { (7 ≤ band) × (band < 22) × Bounded l × ((k : ℕ) → Below 15 (at bands.now k)) }
+    requires { (7 ≤ band) × (band < 22) × Bounded l × Every 15 bands.now }
     ensures { (count : ℕ) → result ≡ leak_step g (at bands.now) count band l }
 {
     let here = bands[band];
@@ -138,7 +136,7 @@ fn low_excitations(
     count: usize,
     start: Leak,
 ) -> Leak
-    requires { (length out.old ≡ 50) × (first ≤ last) × (last ≤ 50) × ((band : ℕ) → first ≤ band → band < last → band < 22) × Bounded start × ((k : ℕ) → Below 15 (at bands.now k)) }
+    requires { (length out.old ≡ 50) × (first ≤ last) × (last ≤ 50) × ((band : ℕ) → first ≤ band → band < last → band < 22) × Bounded start × Every 15 bands.now }
     ensures { (result ≡ leak_after g (at bands.now) count first start (last - first)) × Fills (pos 0) first last (excite_at g (at bands.now) count first start) out.old out.new }
 {
     let mut leak = start;
@@ -159,7 +157,7 @@ fn middle_excitations(
     last: usize,
     start: Leak,
 ) -> Leak
-    requires { (length out.old ≡ 50) × (first ≤ last) × (last ≤ 50) × ((band : ℕ) → first ≤ band → band < last → (7 ≤ band) × (band < 22)) × Bounded start × ((k : ℕ) → Below 15 (at bands.now k)) }
+    requires { (length out.old ≡ 50) × (first ≤ last) × (last ≤ 50) × ((band : ℕ) → first ≤ band → band < last → (7 ≤ band) × (band < 22)) × Bounded start × Every 15 bands.now }
     ensures { (count : ℕ) → (result ≡ leak_after g (at bands.now) count first start (last - first)) × Fills (pos 0) first last (excite_at g (at bands.now) count first start) out.old out.new }
 {
     let mut leak = start;
@@ -180,7 +178,7 @@ fn high_excitations(
     last: usize,
     start: Leak,
 )
-    requires { (length out.old ≡ 50) × (first ≤ last) × (last ≤ 50) × ((band : ℕ) → first ≤ band → band < last → 22 ≤ band) × Bounded start × ((k : ℕ) → Below 15 (at bands.now k)) }
+    requires { (length out.old ≡ 50) × (first ≤ last) × (last ≤ 50) × ((band : ℕ) → first ≤ band → band < last → 22 ≤ band) × Bounded start × Every 15 bands.now }
     ensures { Fills (pos 0) first last (excite_at g (at bands.now) last first start) out.old out.new }
 {
     let mut leak = start;
@@ -200,20 +198,20 @@ pub fn excitations(
     last: usize,
     start: Leak,
 )
-    requires { (length out.old ≡ 50) × (first ≤ last) × (last ≤ 50) × Bounded start × ((k : ℕ) → Below 15 (at bands.now k)) }
+    requires { (length out.old ≡ 50) × (first ≤ last) × (last ≤ 50) × Bounded start × Every 15 bands.now }
     ensures { Fills (pos 0) first last (excite_at g (at bands.now) last first start) out.old out.new }
 {
-    let low = naturals::least(last, naturals::most(first, 7));
-    let middle = naturals::least(last, naturals::most(first, 22));
+    let low = last.min(first.max(7));
+    let middle = last.min(first.max(22));
     let leak = low_excitations(&mut *out, g, bands, first, low, last, start);
     let next = middle_excitations(&mut *out, g, bands, low, middle, leak);
     high_excitations(&mut *out, g, bands, middle, last, next);
 }
 
 // The state before the first band.
-pub fn leak_before(p: Parameters) -> Leak
-    requires { SoundParameters p }
-    ensures { (result ≡ leak_before p) × Bounded result }
+pub fn leak_before(p: &Parameters) -> Leak
+    requires { SoundParameters p.now }
+    ensures { (result ≡ leak_before p.now) × Bounded result }
 {
     Leak {
         fast: p.fastleak,

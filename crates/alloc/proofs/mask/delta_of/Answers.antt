@@ -1,19 +1,12 @@
 -- `alloc::mask::delta_of` meets its contract: each arm shifts the code less a number. Assumes nothing.
-use mathlib.Core.Path.{◌≡◌, ◌∙◌, sym}
-use Prim.Native.Nat.{ℕ, ◌*◌, ◌%◌, ◌^◌, ◌≤◌, ◌<◌}
-use native.Mathlib.Omega.{arith}
-use borrow.Author.Rules.{rules}
+use Rattle.std.proofs.Common.{◌≡◌, ◌∙◌, sym, ℕ, ◌*◌, ◌%◌, ◌^◌, ◌≤◌, ◌<◌, ℤ, pos, ◌-ℤ◌, ◌*ℤ◌, w32, to_z, of_z, arith}
 use borrow.Author.Tests.{le-leb, lt-leb}
-use lib.IntN.{ℤ, pos, ◌-ℤ◌, ◌*ℤ◌}
-use mir.Syntax.{w32}
-use mir.Val.{to_z, of_z}
 use Rattle.signed.specs.Bound.{Below}
 use Rattle.signed.proofs.Bounds.{bounds, cast_32, below_lit, below_u16, below_is}
 use Rattle.signed.proofs.Shift.{shl_by}
 use Rattle.alloc.specs.Allocation.{delta_of}
 use Rattle.alloc.proofs.Bounded.{delta_of_below}
-use Rattle.alloc.proofs.mask.delta_of.Statement.{statement}
-use Rattle.alloc.proofs.mask.delta_of.Tie as tie
+use Rattle.alloc.proofs.mask.delta_of.Goals as goal
 
 shifted : (code less : ℕ) → code < 256 → Below 16 (pos less) → to_z w32 ((of_z w32 (to_z w32 code -ℤ pos less) * 2 ^ 7) % 2 ^ 32) ≡ (pos code -ℤ pos less) *ℤ pos 128
 shifted code less p q =
@@ -32,13 +25,8 @@ down : (code : ℕ) → code < 4 → delta_of code ≡ (pos code -ℤ pos 4) *�
 unfolding delta_of
 down code h = rw (lt-leb 4 code h)
 
-pub delta_of_spec : {M : Type 1} → statement M
-delta_of_spec =
-    tie.close
-    (tie.spec
-    (λ c. search rules)
-    (λ c. let small = below_u16 c.before.args.code (omega arith) in search bounds depth 12)
-    (λ c. let code = c.before.args.code in arm code (omega arith) (shifted code 3 (omega arith) (below_lit tt)) (up code c.if-code-ge4.true))
-    (λ c. search rules)
-    (λ c. let small = below_u16 c.before.args.code (omega arith) in search bounds depth 12)
-    (λ c. let code = c.before.args.code in arm code (omega arith) (shifted code 4 (omega arith) (below_lit tt)) (down code c.if-code-ge4.false)))
+pub returns-in-0-to-3 : goal.returns-in-0-to-3
+returns-in-0-to-3 c = arm c.args.code (omega arith) (shifted c.args.code 4 (omega arith) (below_lit tt)) (down c.args.code (omega arith))
+
+pub returns-in_default : goal.returns-in_default
+returns-in_default c = arm c.args.code (omega arith) (shifted c.args.code 3 (omega arith) (below_lit tt)) (up c.args.code (omega arith))

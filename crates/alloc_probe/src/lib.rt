@@ -23,49 +23,36 @@ fn range_fits(start: usize, end: usize) -> bool
 fn codes_fit(fscod: usize, csnroffst: u8, fsnroffst: u8, count: usize, which: u8) -> bool
     ensures { result ≡ codes_fit fscod csnroffst fsnroffst count which }
 {
-    if 2 < fscod {
-        return false;
-    }
-    if 63 < csnroffst {
-        return false;
-    }
-    if 15 < fsnroffst {
-        return false;
-    }
-    if 8 < count {
-        return false;
-    }
-    which <= 1
+    fscod <= 2 && csnroffst <= 63 && fsnroffst <= 15 && count <= 8 && which <= 1
 }
 
 fn is_exponent(e: i16) -> bool
     ensures { result ≡ is_exponent e }
 {
-    0 <= e && e <= 24
+    (0..=24).contains(&e)
 }
 
 // Whether all 256 exponents are from 0 to 24. A frame's are, outside the range too, and so `alloc::allocate` requires it. There is no way out
 // of the loop but its end, so that many exponents are tested at once.
-fn exponents_fit(exponents: [i16; 256]) -> bool
-    ensures { result ≡ exponents_fit exponents }
+fn exponents_fit(exponents: &[i16; 256]) -> bool
+    ensures { result ≡ exponents_fit exponents.now }
 {
     let mut fit = true;
-    let mut bin = 0usize;
-    while bin < 256 {
+    for bin in 0..256 {
         fit = is_exponent(exponents[bin]) && fit;
-        bin += 1;
     }
     fit
 }
 
 // The table of pointers that a call chooses.
-fn table_of(which: u8) -> [u8; 64]
-    ensures { result ≡ table_of which }
+fn table_of(which: u8) -> &'static [u8; 64]
+    ensures { result.now ≡ table_of which }
 {
     if which == 0 {
-        return tables::bit_allocation_pointers();
+        tables::bit_allocation_pointers()
+    } else {
+        tables::high_efficiency_pointers()
     }
-    tables::high_efficiency_pointers()
 }
 
 // The pointers of the bins from start up to end, by Table 6.16 (which 0) or by that of E.2.4.3.1 (which 1), and 0 for every other bin, of a
@@ -99,7 +86,7 @@ pub extern "C" fn ferrysprig_allocate(
     if !codes_fit(fscod, csnroffst, fsnroffst, count, which) {
         return false;
     }
-    if !exponents_fit(*exponents) {
+    if !exponents_fit(exponents) {
         return false;
     }
     let gains = Gains {
@@ -108,7 +95,6 @@ pub extern "C" fn ferrysprig_allocate(
         fgain: tables::fast_gain(fgaincod),
         sgain: tables::slow_gain(sgaincod),
     };
-    let segments = *segments;
     let parameters = Parameters {
         start,
         end,
@@ -117,12 +103,11 @@ pub extern "C" fn ferrysprig_allocate(
         slowleak: slowleak as i32,
         dbknee: tables::db_knee(dbpbcod),
         fscod,
-        segments,
+        segments: *segments,
         count,
         snroffset: alloc::snr_offset(csnroffst, fsnroffst),
         floor: tables::floor(floorcod),
     };
-    let baps = table_of(which);
-    *out = alloc::allocate(&baps, exponents, parameters);
+    *out = alloc::allocate(table_of(which), exponents, parameters);
     true
 }

@@ -28,7 +28,7 @@ fn walk_bins(
     let bits = tables::mantissa_bits();
     let mut counts = before;
     for bin in start..end {
-        let more = counts.with_one(&bits, pointers[bin]);
+        let more = counts.with_one(bits, pointers[bin]);
         let width = more.width() - counts.width();
         r.step(item, width as u16)?;
         counts = more;

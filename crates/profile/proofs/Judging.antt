@@ -19,10 +19,12 @@ use Rattle.ac3.specs.declared.Answer as parse
 use Rattle.ac3.proofs.Promise.{promised}
 use Rattle.rows.proofs.Found.{place}
 use Rattle.profile.specs.Rules.{Rule, rules, no_rule, rule, judged_by, broken, judged, broken_in, judged_in}
-use Rattle.profile.specs.Answers.{profile_to}
-use Rattle.profile.specs.declared.Answer.{Answer}
+use Rattle.profile.specs.Answers.{answered, profile}
+use Rattle.profile.specs.declared.Judgement.{Judgement}
+use Rattle.profile.specs.declared.Refused.{Refused}
+use Rattle.std.specs.Prelude.{Result, Ok, Err}
 use Rattle.profile.specs.declared.Verdict.{Verdict}
-use Rattle.profile.specs.declared.Verdict.TheVariants.{Refused, Within, Broken}
+use Rattle.profile.specs.declared.Verdict.TheVariants.{Within, Broken}
 
 -- ---- the rules in turn
 
@@ -55,30 +57,30 @@ module _ (h : Header) (rs : List Row) (more : List ℤ) where
   in_room = λ j. judged_by (λ rule. place (broken_in h rule) (broken h rule) (λ r rest. refl) rs more j) (length rs) 1 rules
 
 module _ (rs : List Row) where
-  -- what is told of a parse's answer and the rows
-  abbrev tells : parse.Answer × List ℤ → Answer × List ℤ
-  tells x = (record { rows = x.0.rows; verdict = cond (eqb x.0.refusal 0) (judged x.0.summary.header rs) (Refused x.0.refusal) }, x.1)
+  -- what is answered of a parse's answer and the rows
+  abbrev answers : parse.Answer × List ℤ → Result Judgement Refused × List ℤ
+  answers x = (answered x.0.rows (cond (eqb x.0.refusal 0) (Ok (judged x.0.summary.header rs)) (Err x.0.refusal)), x.1)
 
   module _ (a : parse.Answer) (after : List ℤ) where
-    of_refused : ¬ (a.refusal ≡ 0) → (record { rows = a.rows; verdict = Refused a.refusal }, after) ≡ tells (a, after)
+    of_refused : ¬ (a.refusal ≡ 0) → (Err (record { refusal = a.refusal; rows = a.rows }), after) ≡ answers (a, after)
     of_refused h = rw (ne_eqb a.refusal 0 h)
 
-    of_accepted : a.refusal ≡ 0 → (record { rows = a.rows; verdict = judged a.summary.header rs }, after) ≡ tells (a, after)
+    of_accepted : a.refusal ≡ 0 → (Ok (record { rows = a.rows; verdict = judged a.summary.header rs }), after) ≡ answers (a, after)
     of_accepted h = rw (eq-eqb a.refusal 0 h)
 
 module _ (capture : List ℕ) (at : ℕ) (rows : List ℤ) {a : parse.Answer} {after : List ℤ} (is : (a, after) ≡ answer_to (call capture at rows)) where
   abbrev here : Call
   here = call capture at rows
 
-  as_told : tells (listed here) (a, after) ≡ profile_to capture at rows
-  unfolding profile_to
-  as_told = ap (tells (listed here)) is
+  as_answered : answers (listed here) (a, after) ≡ profile capture at rows
+  unfolding profile
+  as_answered = ap (answers (listed here)) is
 
-  pub refused_frame : ¬ (a.refusal ≡ 0) → (record { rows = a.rows; verdict = Refused a.refusal }, after) ≡ profile_to capture at rows
-  refused_frame h = of_refused (listed here) a after h ∙ as_told
+  pub refused_frame : ¬ (a.refusal ≡ 0) → (Err (record { refusal = a.refusal; rows = a.rows }), after) ≡ profile capture at rows
+  refused_frame h = of_refused (listed here) a after h ∙ as_answered
 
-  pub judged_frame : a.refusal ≡ 0 → {v : Verdict} → v ≡ judged_in a.summary.header a.rows after → (record { rows = a.rows; verdict = v }, after) ≡ profile_to capture at rows
+  pub judged_frame : a.refusal ≡ 0 → {v : Verdict} → v ≡ judged_in a.summary.header a.rows after → (Ok (record { rows = a.rows; verdict = v }), after) ≡ profile capture at rows
   judged_frame h e =
       let kept = promised here {a = a} {after = after} is in
       let same = e ∙ (λ j. judged_in a.summary.header (kept.counted j) (kept.written j)) ∙ in_room a.summary.header (listed here) (drop (length (listed here) * row_width) rows) in
-      ap (λ v. (record { rows = a.rows; verdict = v }, after)) same ∙ of_accepted (listed here) a after h ∙ as_told
+      ap (λ v. (Ok (record { rows = a.rows; verdict = v }), after)) same ∙ of_accepted (listed here) a after h ∙ as_answered

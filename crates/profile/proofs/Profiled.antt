@@ -18,7 +18,17 @@ use Rattle.rows.proofs.Opening.{head_rows}
 use Rattle.profile.specs.Rules.{Rule, rules, no_rule, rule, least_bytes, judged_by, broken, found_at, judged}
 use Rattle.profile.specs.Answers.{verdict_of}
 use Rattle.profile.specs.Profiled.{Stands, HasAt, header_of, BreaksAt, Kept, Told, ProfileIsRight}
+use Rattle.profile.specs.declared.Verdict.{Verdict}
 use Rattle.profile.specs.declared.Verdict.TheVariants.{Within, Broken}
+use Rattle.std.specs.Prelude.{Result, Ok, Err}
+
+-- the verdict in a Result
+abbrev verdict_in : Result Verdict ℕ → Verdict
+verdict_in (Ok v) = v
+verdict_in (Err refusal) = Within
+
+same_verdict : {v w : Verdict} → ◌≡◌ {A = Result Verdict ℕ} (Ok v) (Ok w) → v ≡ w
+same_verdict e = ap verdict_in e
 
 no_such : {P : Type 0} → ◌≡◌ {A = Bool} true false → P
 no_such e = let z : ◌≡◌ {A = ℕ} 0 1 = cc in absurd (omega arith)
@@ -164,22 +174,22 @@ module _ (c : Call) where
       (t.0.value, (t.0, t.1, eqb-true t.0.item.name (rule n).field p.0, refl), p.1)
 
   module _ (ok : Accepted c) where
-    is_judged_lem : verdict_of c ≡ judged h rs
+    is_judged_lem : verdict_of c ≡ Ok (judged h rs)
     is_judged_lem = rw (eq-eqb (answer_to c).0.refusal 0 ok)
 
-    within : verdict_of c ≡ Within → (n i : ℕ) → n < 7 → ¬ BreaksAt c n i
-    within e n i l = not_one n (within_none (found_at h rs) (length rs) rules 1 (sym is_judged_lem ∙ e) n l) i
+    within : verdict_of c ≡ Ok Within → (n i : ℕ) → n < 7 → ¬ BreaksAt c n i
+    within e n i l = not_one n (within_none (found_at h rs) (length rs) rules 1 (same_verdict (sym is_judged_lem ∙ e)) n l) i
 
-    whole : ((n i : ℕ) → n < 7 → ¬ BreaksAt c n i) → verdict_of c ≡ Within
-    whole none = is_judged_lem ∙ none_within (found_at h rs) (length rs) rules 1 (λ n l. go n l (dec_le (length rs) (found n)))
+    whole : ((n i : ℕ) → n < 7 → ¬ BreaksAt c n i) → verdict_of c ≡ Ok Within
+    whole none = is_judged_lem ∙ ap Ok (none_within (found_at h rs) (length rs) rules 1 (λ n l. go n l (dec_le (length rs) (found n))))
       where
         go : (n : ℕ) → n < 7 → Dec (length rs ≤ found n) → length rs ≤ found n
         go n l (Dec.yes p) = p
         go n l (Dec.no p) = absurd (none n (found n) l (found_one n (omega arith)))
 
-    told : (n i : ℕ) → verdict_of c ≡ Broken n i → Told c n i
+    told : (n i : ℕ) → verdict_of c ≡ Ok (Broken n i) → Told c n i
     told n i e =
-        let f = told_first (found_at h rs) (length rs) rules 1 n i (sym is_judged_lem ∙ e) in
+        let f = told_first (found_at h rs) (length rs) rules 1 n i (same_verdict (sym is_judged_lem ∙ e)) in
         record {
           number = f.number;
           counted = omega (arith, f.counted);

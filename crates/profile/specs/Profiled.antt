@@ -1,13 +1,13 @@
 -- What the answer means, over the fields of the frame: within exactly when no rule is broken; else the first rule that is, and the first row
 -- that breaks it; and a frame that parsing refuses gets that refusal.
-use Rattle.std.specs.Prelude.{true, List, [], ◌∷◌, ◌⊎◌, ◌≡◌, ℕ, zero, suc, ◌*◌, ◌≤◌, ◌<◌}
+use Rattle.std.specs.Prelude.{true, List, [], ◌∷◌, ◌⊎◌, ◌≡◌, ℕ, zero, suc, ◌*◌, ◌≤◌, ◌<◌, Ok, Err}
 use Rattle.header.specs.declared.Header.{Header}
 use Rattle.syntax.specs.Names as Name
 use Rattle.syntax.specs.Run.{Row}
 use Rattle.ac3.specs.Promise.{Call, listed, answer_to, Accepted}
 use Rattle.profile.specs.Rules.{rule}
 use Rattle.profile.specs.Answers.{verdict_of}
-use Rattle.profile.specs.declared.Verdict.TheVariants.{Refused, Within, Broken}
+use Rattle.profile.specs.declared.Verdict.TheVariants.{Within, Broken}
 
 -- row i of a list
 abbrev pub Stands : List Row → ℕ → Row → Type 0
@@ -49,15 +49,15 @@ pub record Told (c : Call) (n i : ℕ) : Type 0 where
   pub first_rule : (m j : ℕ) → m < number → ¬ BreaksAt c m j
 
 pub record Profiled (c : Call) : Type 0 where
-  pub refused : ¬ Accepted c → verdict_of c ≡ Refused (answer_to c).0.refusal
+  pub refused : ¬ Accepted c → verdict_of c ≡ Err (answer_to c).0.refusal
   -- within exactly when no row breaks a rule
-  pub within : Accepted c → verdict_of c ≡ Within → (n i : ℕ) → n < 7 → ¬ BreaksAt c n i
-  pub whole : Accepted c → ((n i : ℕ) → n < 7 → ¬ BreaksAt c n i) → verdict_of c ≡ Within
+  pub within : Accepted c → verdict_of c ≡ Ok Within → (n i : ℕ) → n < 7 → ¬ BreaksAt c n i
+  pub whole : Accepted c → ((n i : ℕ) → n < 7 → ¬ BreaksAt c n i) → verdict_of c ≡ Ok Within
   -- the same in words
-  pub within_kept : Accepted c → verdict_of c ≡ Within → Kept c
-  pub kept_within : Accepted c → Kept c → verdict_of c ≡ Within
+  pub within_kept : Accepted c → verdict_of c ≡ Ok Within → Kept c
+  pub kept_within : Accepted c → Kept c → verdict_of c ≡ Ok Within
   -- else the first rule that is broken, and the first row that breaks it
-  pub told : Accepted c → (n i : ℕ) → verdict_of c ≡ Broken n i → Told c n i
+  pub told : Accepted c → (n i : ℕ) → verdict_of c ≡ Ok (Broken n i) → Told c n i
 
 abbrev pub ProfileIsRight : Type 0
 ProfileIsRight = (c : Call) → Profiled c

@@ -6,7 +6,7 @@ ghost use Rattle.std.specs.Prelude.{◌≡◌, ◌+◌, ◌*◌, ◌<◌, ◌≤
 ghost use Rattle.syntax.specs.Numbers.{row_width};
 ghost use Rattle.rows.specs.Look.{first_where};
 ghost use Rattle.profile.specs.Rules.{rule, broken_in, judged_in};
-ghost use Rattle.profile.specs.Answers.{numbers_of, profile_to};
+ghost use Rattle.profile.specs.Answers.{profile};
 
 use header::Header;
 use syntax::ROW;
@@ -18,49 +18,25 @@ const VALUE: usize = 7;
 // The fewest bytes: twice 384 words, which at 48 kHz are 192 kbit/s.
 const LEAST_BYTES: u16 = 768;
 
-// The parse's refusal; or no rule is broken; or the first rule that is, counted from 1, and the first row that breaks it, from 0.
+// No rule is broken; or the first rule that is, counted from 1, and the first row that breaks it, from 0.
 #[derive(Clone, Copy, Debug, PartialEq, Eq)]
 pub enum Verdict {
-    Refused(u8),
     Within,
     Broken(u8, usize),
 }
 
-// And the rows that the parse left.
+// The verdict on a frame, and the rows that the parse left.
 #[derive(Clone, Copy, Debug, PartialEq, Eq)]
-pub struct Answer {
+pub struct Judgement {
     pub rows: usize,
     pub verdict: Verdict,
 }
 
-// A verdict as numbers: 0 for what it does not have. (Public for the exported function, which can tell numbers only.)
+// The number of the parse's refusal, the only one there is, and the rows that the parse left.
 #[derive(Clone, Copy, Debug, PartialEq, Eq)]
-pub struct Numbers {
+pub struct Refused {
     pub refusal: u8,
-    pub rule: u8,
-    pub row: usize,
-}
-
-pub fn numbers_of(verdict: Verdict) -> Numbers
-    ensures { result ≡ numbers_of verdict }
-{
-    match verdict {
-        Verdict::Refused(refusal) => Numbers {
-            refusal,
-            rule: 0,
-            row: 0,
-        },
-        Verdict::Within => Numbers {
-            refusal: 0,
-            rule: 0,
-            row: 0,
-        },
-        Verdict::Broken(rule, row) => Numbers {
-            refusal: 0,
-            rule,
-            row,
-        },
-    }
+    pub rows: usize,
 }
 
 // The field that a rule speaks of.
@@ -131,19 +107,19 @@ fn judged(rows: &[i32], count: usize, header: Header) -> Verdict
 }
 
 // Whether the frame at a place of a capture is within the profile.
-pub fn profile(capture: &[u8], place: usize, rows: &mut [i32]) -> Answer
-    ensures { (result, rows.new) ≡ profile_to capture.now place rows.old }
+pub fn profile(capture: &[u8], place: usize, rows: &mut [i32]) -> Result<Judgement, Refused>
+    ensures { (result, rows.new) ≡ profile capture.now place rows.old }
 {
     let parsed = ac3::parse(capture, place, rows);
     let count = parsed.rows;
     if parsed.refusal != 0 {
-        return Answer {
+        return Err(Refused {
+            refusal: parsed.refusal,
             rows: count,
-            verdict: Verdict::Refused(parsed.refusal),
-        };
+        });
     }
-    Answer {
+    Ok(Judgement {
         rows: count,
         verdict: judged(rows, count, parsed.summary.header),
-    }
+    })
 }

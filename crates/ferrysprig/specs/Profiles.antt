@@ -1,8 +1,7 @@
 -- An answer about the profile as four numbers: the refusal, the rows that the parse left, the rule that is broken, counted from 1, and the
 -- row that breaks it. Rule and row are 0 where no rule is broken.
 use Rattle.std.specs.Prelude.{List, [], ◌∷◌, map, ℕ, ℤ, pos}
-use Rattle.profile.specs.Answers.{numbers_of}
-use Rattle.profile.specs.declared.Answer.{Answer}
+use Rattle.profile.specs.Answers.{Answer, numbers_of}
 
 unfoldable pub profile_in_order : Answer → List ℕ
 profile_in_order a = let n = numbers_of a.verdict in n.refusal ∷ a.rows ∷ n.rule ∷ n.row ∷ []

@@ -23,11 +23,12 @@ ghost use Rattle.aht.specs.Aht.{aht_of};
 ghost use Rattle.ferrysprig.specs.Aht.{aht_numbers};
 ghost use Rattle.level.specs.Level as levels;
 ghost use Rattle.level.specs.Level.{correct_to};
+ghost use Rattle.profile.specs.Answers as profiles;
 ghost use Rattle.profile.specs.Answers.{numbers_of, profile_to};
 ghost use Rattle.ferrysprig.specs.Bursts.{burst_numbers, burst_told};
 ghost use Rattle.ferrysprig.specs.Levels.{level_numbers, level_told};
 ghost use Rattle.ferrysprig.specs.Numbers.{flag, in_order, answer_numbers, told};
-ghost use Rattle.ferrysprig.specs.Profiles.{profile_in_order, profile_numbers, profile_told};
+ghost use Rattle.ferrysprig.specs.Profiles.{profile_numbers, profile_told};
 ghost use Rattle.ferrysprig.specs.Promise.{PromisedNumbers};
 ghost use Rattle.ferrysprig.specs.Salvages.{salvage_numbers, salvage_told};
 ghost use Rattle.ferrysprig.specs.Indexes.{index_told};
@@ -36,7 +37,7 @@ use ac3::{Answer, SLOT_COUNTS};
 pub use apart::HEADER_ANSWER;
 use apart::{are_taken, header_numbers};
 pub use packing::{PACKING_ANSWER, ferrysprig_pack, ferrysprig_unpack};
-use profile::numbers_of;
+use profile::{Judgement, Verdict};
 use syntax::rows::shown;
 
 // The numbers of an answer, and of those about a burst, a salvage, the profile and a level. The block of what did not fit, which alone may be
@@ -275,29 +276,18 @@ pub fn ferrysprig_aht(
     };
 }
 
-// The numbers of an answer about the profile in their order.
-fn profile_in_order(judged: profile::Answer) -> [u16; PROFILE_ANSWER]
-    requires { (judged.rows ≤ most_rows) × ((numbers_of judged.verdict).row ≤ most_rows) }
-    ensures { result ≡ profile_in_order judged }
+// The numbers of an answer about the profile. None is large: no frame has more than 4,067 rows.
+fn profile_numbers(answer: Result<Judgement, profile::Refused>) -> [i32; PROFILE_ANSWER]
+    requires { ((profiles.told answer).rows ≤ most_rows) × ((numbers_of (profiles.told answer).verdict).row ≤ most_rows) }
+    ensures { result ≡ profile_numbers (profiles.told answer) }
 {
-    let verdict = judged.verdict;
-    let told = numbers_of(verdict);
-    [
-        told.refusal as u16,
-        judged.rows as u16,
-        told.rule as u16,
-        told.row as u16,
-    ]
-}
-
-fn profile_numbers(a: profile::Answer) -> [i32; PROFILE_ANSWER]
-    requires { (a.rows ≤ most_rows) × ((numbers_of a.verdict).row ≤ most_rows) }
-    ensures { result ≡ profile_numbers a }
-{
-    let small = profile_in_order(a);
-    let mut out = [0i32; PROFILE_ANSWER];
-    writer::numbers(&small, &mut out);
-    out
+    match answer {
+        Ok(judged) => match judged.verdict {
+            Verdict::Within => [0, judged.rows as i32, 0, 0],
+            Verdict::Broken(rule, row) => [0, judged.rows as i32, i32::from(rule), row as i32],
+        },
+        Err(refused) => [i32::from(refused.refusal), refused.rows as i32, 0, 0],
+    }
 }
 
 // Holds the frame at a place of a capture against the contribution profile, and writes the answer's numbers.

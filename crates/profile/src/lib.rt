@@ -39,7 +39,7 @@ pub struct Refused {
     pub rows: usize,
 }
 
-// The field that a rule speaks of.
+// The field that a rule speaks of. (A rule goes by its number: the answer tells it, and the definition's list of rules is counted by it.)
 fn field(number: u8) -> u8
     requires { number < 7 }
     ensures { result ≡ (rule number).field }

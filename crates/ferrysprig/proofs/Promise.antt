@@ -38,8 +38,8 @@ next_told : (c : Call) (a : Answer) (after : List ℤ) → Promised c a after �
 unfolding answer_numbers in_order
 next_told c a after kept six =
     let is : a ≡ (answer_to c).0 = ap (λ x. x.0) (determined c kept) in
-    let n = what_did_not_fit.next c (ap (λ x. x.refusal) (sym is) ∙ six) in
-    (n.row, n.later, n.goes_on, record { name = ap pos (ap (λ x. x.name) is ∙ n.name); block = ap shown (ap (λ x. x.block) is ∙ n.block) })
+    let (x, n, told) = what_did_not_fit.next c (ap (λ x. x.refusal) (sym is) ∙ six) in
+    (n.row, n.later, n.goes_on, record { name = ap pos (ap (λ x. x.name) is ∙ told.name ∙ n.name); block = ap shown (ap (λ x. x.block) is ∙ told.block ∙ n.block) })
 
 -- ---- the mantissa bits
 

@@ -126,7 +126,8 @@ fn middle_step(g: Gains, bands: &[i32; 50], band: usize, l: Leak) -> Leak
     fall_leak(g, here, low, low, l)
 }
 
-// The excitation of bands below 22, and the state after them. Only those below 7 need all that it tests for.
+// The excitation of bands below 22, and the state after them. Only those below 7 need all that it tests for: so the bands stand in three loops,
+// of which the longer ones test for less, and not in one.
 fn low_excitations(
     out: &mut [i32; 50],
     g: Gains,

@@ -77,7 +77,7 @@ fn spread(
     }
 }
 
-// The thresholds of bands of one bin.
+// The thresholds of bands of one bin: a loop of its own, in which the processor takes several bands at once.
 fn narrow(out: &mut [i32; 256], thresholds: &[i32; 50])
     requires { length out.old ≡ 256 }
     ensures { Fills (pos 0) 0 28 (at thresholds.now) out.old out.new }

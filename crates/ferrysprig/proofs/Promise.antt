@@ -13,7 +13,6 @@ use Rattle.tables.specs.Tables.{nfchans}
 use Rattle.alloc.specs.Allocation.{from}
 use Rattle.alloc.proofs.Noted.{from_at, from_length}
 use Rattle.syntax.specs.Numbers.{shown}
-use Rattle.syntax.specs.Refusals.{number}
 use Rattle.syntax.specs.Run.{Row}
 use Rattle.mantissas.specs.BySlot.{Unused}
 use Rattle.ac3.specs.Frame.{slot_counts, summary_of}

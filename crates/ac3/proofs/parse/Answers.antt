@@ -5,7 +5,7 @@ use Prim.Native.Nat.{ℕ, ◌-◌}
 use lib.IntN.{ℤ}
 use lib.ListN.{length, drop, length-drop, drop_of_length-le}
 use lib.Seq.{take_all}
-use Rattle.std.proofs.Common.{rules, arith}
+use Rattle.std.proofs.Common.{arith}
 use Rattle.ac3.specs.Frame.{answer}
 use Rattle.ac3.specs.Promise.{call, Promised}
 use Rattle.ac3.specs.Within.{Within}
@@ -23,7 +23,7 @@ kept capture place room e = let all = promised (call capture place room) e in (a
 pub returns-then-capture-place : goal.returns-then-capture-place
 returns-then-capture-place c =
     let told : (c.refused.result, c.args.rows.now) ≡ answer c.args.capture.now c.args.place c.args.rows.now =
-        rw (c.refused.ensures, drop_of_length-le c.args.capture.now {i = c.args.place} (omega arith)) (told_nothing _) in
+    rw (c.refused.ensures, drop_of_length-le c.args.capture.now {i = c.args.place} (omega arith)) (told_nothing _) in
     let all = kept c.args.capture.now c.args.place c.args.rows.now told in
     record { rows_after = told; promised = all.0; within = all.1 }
 
@@ -31,6 +31,6 @@ pub returns : goal.returns
 returns c =
     let rest = drop c.args.place c.args.capture.now in
     let told : (c.syncframe.result, c.syncframe.new.rows) ≡ answer c.args.capture.now c.args.place c.args.rows.now =
-        rw (take_all (length c.args.capture.now - c.args.place) rest (omega (arith, length-drop c.args.place c.args.capture.now))) at c.syncframe.ensures in
+    rw (take_all (length c.args.capture.now - c.args.place) rest (omega (arith, length-drop c.args.place c.args.capture.now))) at c.syncframe.ensures in
     let all = kept c.args.capture.now c.args.place c.args.rows.now told in
     record { rows_after = told; promised = all.0; within = all.1 }

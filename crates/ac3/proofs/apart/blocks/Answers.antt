@@ -4,7 +4,6 @@ use mathlib.Core.Bool.{Bool, true, false, ◌&&◌, beq}
 use mathlib.Core.Path.{◌≡◌, refl, ◌∙◌}
 use lib.Dec.{eqb}
 use Rattle.std.proofs.Math.Bool.{and_assoc}
-use Rattle.header.specs.declared.Header.{Header}
 use Rattle.ac3.specs.Apart.{same_flag, same_answer}
 use Rattle.ac3.specs.declared.HeaderAnswer.{HeaderAnswer}
 use Rattle.ac3.proofs.apart.blocks.Goals as goal

@@ -3,9 +3,9 @@ use mathlib.Core.List.{List, ◌++◌, append_assoc}
 use mathlib.Core.Path.{◌≡◌, refl, ap, sym, ◌∙◌}
 use Prim.Native.Nat.{ℕ, ◌+◌, ◌-◌, ◌*◌, ◌≤◌}
 use borrow.Rule.Slice.PartMut.{put_mid, post_of, Post-is}
-use lib.ListN.{length, take, drop, length-drop}
-use lib.Seq.{sets, sets-eq, length-take-le}
-use Rattle.std.proofs.Common.{rules, arith}
+use lib.ListN.{length, take, drop}
+use lib.Seq.{sets, sets-eq}
+use Rattle.std.proofs.Common.{arith}
 use Rattle.ac3.proofs.block.counted.Goals.{then-cplinu, else-cplinu}
 use Rattle.ac3.proofs.block.counted.Goals as goal
 

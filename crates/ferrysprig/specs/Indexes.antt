@@ -1,6 +1,6 @@
 -- An answer about an index as two numbers: the refusal, the entries.
 use Rattle.std.specs.Prelude.{List, [], ◌∷◌, ℕ, ℤ}
-use Rattle.index.specs.declared.Answer.{Answer}
+use Rattle.index.specs.Refusals.{Answer}
 
 abbrev pub index_numbers : Answer → List ℕ
 index_numbers a = a.refusal ∷ a.entries ∷ []

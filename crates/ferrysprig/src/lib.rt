@@ -253,8 +253,10 @@ pub fn ferrysprig_index(
 )
     ensures { ((answer.new, index.new), rows.new) ≡ index_told (indexed capture.now rows.old index.old entries) }
 {
-    let told = index::index(capture, rows, index, entries);
-    *answer = [told.refusal as usize, told.entries];
+    *answer = match index::index(capture, rows, index, entries) {
+        Ok(made) => [0, made],
+        Err(refusal) => [usize::from(refusal.number()), entries],
+    };
 }
 
 // Walks over an AHT section from bit `at` on, with the bins from first up to past, where nothing may end past bit `end`, and writes the

@@ -1,5 +1,5 @@
 -- Entries as numbers of an index, and what each entry of a walk is: the entry of a frame that parsing accepts there. Assumes nothing.
-use mathlib.Core.Bool.{Bool, true, false, cond}
+use mathlib.Core.Bool.{Bool, true, false, cond, ◌&&◌}
 use mathlib.Core.List.{List, [], ◌∷◌, ◌++◌, append_assoc}
 use mathlib.Core.Path.{◌≡◌, refl, sym, ap, subst, ◌∙◌}
 use Prim.Native.Nat.{ℕ, zero, suc, ◌+◌, ◌*◌, ◌<◌}
@@ -18,7 +18,8 @@ use Rattle.rows.proofs.Found.{looks_up}
 use Rattle.salvage.proofs.Parsed.{same_room}
 use Rattle.index.specs.Index.{entry_width, numbers, numbers_of, entry_of, entry_in, same_entry, is_over, met, stride, walk}
 use Rattle.index.specs.Indexes.{Right}
-use Rattle.index.specs.declared.Entry.{Entry}
+use Rattle.index.specs.declared.outcome.Entry.{Entry}
+use Rattle.index.proofs.Answered.{both_true}
 use Rattle.index.proofs.Walks.{stops_there, goes_on, same_frame, same_entry_lem}
 
 -- ---- numbers
@@ -135,3 +136,18 @@ by_answer c d place same = λ i.
 pub same_as_itself : (e f : Entry) → e ≡ f → same_entry e f ≡ true
 same_as_itself e f is =
     ap (λ e. same_entry e f) is ∙ rw (eq-eqb f.size f.size refl, eq-eqb f.acmod f.acmod refl, eq-eqb f.dialnorm f.dialnorm refl, eq-eqb f.second f.second refl)
+
+-- the same four numbers, and the place is the last entry's
+pub same_numbers : (e f : Entry) → e.place ≡ f.place → same_entry e f ≡ true → e ≡ f
+same_numbers e f place same =
+    let (size, more) = both_true (eqb e.size f.size) (eqb e.acmod f.acmod && (eqb e.dialnorm f.dialnorm && eqb e.second f.second)) same in
+    let (acmod, levels) = both_true (eqb e.acmod f.acmod) (eqb e.dialnorm f.dialnorm && eqb e.second f.second) more in
+    let (dialnorm, second) = both_true (eqb e.dialnorm f.dialnorm) (eqb e.second f.second) levels in
+    λ i.
+    record {
+      place = place i;
+      size = eqb-true e.size f.size size i;
+      acmod = eqb-true e.acmod f.acmod acmod i;
+      dialnorm = eqb-true e.dialnorm f.dialnorm dialnorm i;
+      second = eqb-true e.second f.second second i;
+    }

@@ -19,8 +19,8 @@ use Rattle.ac3.proofs.Later.{later_bytes}
 use Rattle.salvage.proofs.Parsed.{same_room}
 use Rattle.index.specs.Index.{entry_width, numbers, numbers_of, entry_of, entry_in, same_entry, is_over, ◌before◌, met, stride, Walk, walk, walk_from, room_in, no_room, not_there, start, after, begin, refused, entered, extended, answered_by, indexed}
 use Rattle.index.specs.Indexes.{told, Made, Extends, ListsThem}
-use Rattle.index.specs.declared.Answer.{Answer}
-use Rattle.index.specs.declared.Entry.{Entry}
+use Rattle.index.specs.Refusals.{Answer}
+use Rattle.index.specs.declared.outcome.Entry.{Entry}
 use Rattle.index.proofs.Answered.{walked}
 use Rattle.index.proofs.Entries.{Every, every_at, Is, all_are, unmoved, length_numbers, numbers_append, moved, by_answer, same_as_itself}
 use Rattle.index.proofs.Indexes.{indexes}

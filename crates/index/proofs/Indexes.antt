@@ -17,28 +17,12 @@ use Rattle.salvage.specs.Walk.{no_fields}
 use Rattle.salvage.proofs.Parsed.{same_room}
 use Rattle.index.specs.Index.{entry_width, numbers_of, entry_of, entry_in, same_entry, Walk, walk_from, room_in, not_there, no_room, Start, start, ends_at, after, begin, refused, entered, extended, answered_by, indexed}
 use Rattle.index.specs.Indexes.{is_number, Holds, Indexes}
-use Rattle.index.specs.declared.Answer.{Answer}
-use Rattle.index.specs.declared.Entry.{Entry}
-use Rattle.index.proofs.Answered.{both_true}
-use Rattle.index.proofs.Entries.{Every, every_at, Is, right, all_are, moved, unmoved, length_numbers}
+use Rattle.index.specs.Refusals.{Answer}
+use Rattle.index.specs.declared.outcome.Entry.{Entry}
+use Rattle.index.proofs.Entries.{Every, every_at, Is, right, all_are, moved, unmoved, length_numbers, same_numbers}
 use Rattle.index.proofs.Walks.{room_long, unstopped, stop_number}
 
 -- ---- where the walk begins
-
--- the same four numbers, and the place is the last entry's
-same_numbers : (e f : Entry) → e.place ≡ f.place → same_entry e f ≡ true → e ≡ f
-same_numbers e f place same =
-    let (size, more) = both_true (eqb e.size f.size) (eqb e.acmod f.acmod && (eqb e.dialnorm f.dialnorm && eqb e.second f.second)) same in
-    let (acmod, levels) = both_true (eqb e.acmod f.acmod) (eqb e.dialnorm f.dialnorm && eqb e.second f.second) more in
-    let (dialnorm, second) = both_true (eqb e.dialnorm f.dialnorm) (eqb e.second f.second) levels in
-    λ i.
-    record {
-      place = place i;
-      size = eqb-true e.size f.size size i;
-      acmod = eqb-true e.acmod f.acmod acmod i;
-      dialnorm = eqb-true e.dialnorm f.dialnorm dialnorm i;
-      second = eqb-true e.second f.second second i;
-    }
 
 module _ (capture : List ℕ) (rows : List ℤ) (index : List ℕ) where
   record Begun (entries : ℕ) (s : Start) : Type 0 where

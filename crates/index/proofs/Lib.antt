@@ -1,8 +1,8 @@
 pub mod Walks
 pub mod Loop
 pub mod Answered
-pub mod Begins
 pub mod Entries
+pub mod Begins
 pub mod Indexes
 pub mod Extends
 pub mod Meets

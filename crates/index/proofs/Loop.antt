@@ -2,6 +2,7 @@
 use mathlib.Core.Bool.{Bool, true, false, cond}
 use mathlib.Core.List.{List, [], ◌∷◌}
 use mathlib.Core.Path.{◌≡◌, refl, sym, ap, ◌∙◌}
+use Rattle.std.specs.Prelude.{Result, Ok, Err}
 use Prim.Native.Nat.{ℕ, zero, suc, ◌+◌, ◌*◌, ◌≤◌, ◌<◌}
 use native.Mathlib.Omega.{arith}
 use borrow.Author.Tests.{ne_eqb}
@@ -22,8 +23,9 @@ use Rattle.salvage.proofs.Skip.{some_room, skipped}
 use Rattle.salvage.proofs.Unsynced.{passed_inside}
 use Rattle.index.specs.Filled.{put, puts, filled}
 use Rattle.index.specs.Index.{entry_of, entry_width, numbers, room_in, Walk, is_over, over, ◌before◌, walk, walk_from}
-use Rattle.index.specs.declared.Answer.{Answer}
-use Rattle.index.specs.declared.Entry.{Entry}
+use Rattle.index.specs.declared.outcome.Entry.{Entry}
+use Rattle.index.specs.declared.outcome.Refusal.{Refusal}
+use Rattle.index.specs.declared.outcome.Refusal.TheVariants.{NoFields}
 use Rattle.index.proofs.Walks.{stops_there, goes_on, accepts, passes, at_end, same_entry_lem}
 
 -- ---- entries that are written
@@ -77,7 +79,7 @@ module _ (capture : List ℕ) where
 -- ---- the invariant
 
 module _ (capture : List ℕ) (rows₀ : List ℤ) (index₀ : List ℕ) (entries from : ℕ) where
-  abbrev Whole : (Answer × List ℕ) × List ℤ → Type 0
+  abbrev Whole : (Result ℕ Refusal × List ℕ) × List ℤ → Type 0
   Whole told = told ≡ filled index₀ entries (walk_from capture from rows₀)
 
   pub record Going (rows : List ℤ) (index : List ℕ) (done place : ℕ) : Type 0 where
@@ -94,16 +96,16 @@ module _ (capture : List ℕ) (rows₀ : List ℤ) (index₀ : List ℕ) (entrie
   begins h = record { left = length capture; inside = h; enough = omega arith; same = refl; long = refl; index_long = refl; counted = omega arith }
 
   -- nothing is left to walk
-  ended : {index : List ℕ} {done : ℕ} (w : Walk) {refusal reach : ℕ} {after : List ℤ} → w ≡ over refusal reach after
-      → Whole (filled index done w) → Whole ((record { refusal = refusal; entries = done }, index), after)
+  ended : {index : List ℕ} (done : ℕ) (w : Walk) {refusal reach : ℕ} {after : List ℤ} → w ≡ over refusal reach after
+      → Whole (filled index done w) → Whole ((cond (eqb refusal 0) (Ok done) (Err NoFields), index), after)
   unfolding filled puts
-  ended {index} {done} w {refusal} {reach} {after} is same =
+  ended {index} done w {refusal} {reach} {after} is same =
       let count : done ≡ done + 0 = omega arith in
-      ap (λ n. ((record { refusal = refusal; entries = n }, index), after)) count ∙ sym (ap (filled index done) is) ∙ same
+      ap (λ n. ((cond (eqb refusal 0) (Ok n) (Err NoFields), index), after)) count ∙ sym (ap (filled index done) is) ∙ same
 
   pub ends : {rows : List ℤ} {index : List ℕ} {done place : ℕ} → Going rows index done place → length capture ≤ place
-      → Whole ((record { refusal = 0; entries = done }, index), rows)
-  ends {rows} {place = place} g end = ended (walk capture g.left place rows) (at_end capture g.left place rows end) g.same
+      → Whole ((Ok done, index), rows)
+  ends {rows} {done = done} {place = place} g end = ended done (walk capture g.left place rows) (at_end capture g.left place rows end) g.same
 
   module _ {rows after : List ℤ} {index : List ℕ} {done place : ℕ} {a : parse.Answer} (g : Going rows index done place)
       (more : place < length capture) (parsed : (a, after) ≡ answer capture place rows) (long : length after ≡ length rows) where
@@ -126,15 +128,15 @@ module _ (capture : List ℕ) (rows₀ : List ℤ) (index₀ : List ℕ) (entrie
     abbrev next : Ahead
     next = ahead g.left g.enough g.same
 
-    stops : (number : ℕ) → is_over a.refusal ≡ true → cond (is_full a.refusal) 37 0 ≡ number → Whole ((record { refusal = number; entries = done }, index), after)
+    stops : (number : ℕ) → is_over a.refusal ≡ true → cond (is_full a.refusal) 37 0 ≡ number → Whole ((cond (eqb number 0) (Ok done) (Err NoFields), index), after)
     stops number is which =
         let there = stops_there capture next.left place rows (ap is_over refusal_is ∙ is) in
-        ended (walk capture (suc next.left) place rows) (there ∙ (λ i. over ((ap (λ n. cond (is_full n) 37 0) refusal_is ∙ which) i) place (after_is i))) next.same
+        ended done (walk capture (suc next.left) place rows) (there ∙ (λ i. over ((ap (λ n. cond (is_full n) 37 0) refusal_is ∙ which) i) place (after_is i))) next.same
 
-    pub full : a.refusal ≡ 7 → Whole ((record { refusal = 37; entries = done }, index), after)
+    pub full : a.refusal ≡ 7 → Whole ((Err NoFields, index), after)
     full seven = stops 37 (ap is_over seven) (ap (λ n. cond (is_full n) 37 0) seven)
 
-    pub short : is_short a.refusal ≡ true → Whole ((record { refusal = 0; entries = done }, index), after)
+    pub short : is_short a.refusal ≡ true → Whole ((Ok done, index), after)
     short is = stops 0 (short_over a.refusal is) (rw (short_not_full a.refusal is))
 
     pub within : place + a.summary.header.bytes ≤ length capture
@@ -161,28 +163,28 @@ module _ (capture : List ℕ) (rows₀ : List ℤ) (index₀ : List ℕ) (entrie
       pub moves : shortest ≤ a.summary.header.bytes
       moves = rw (ap (λ x. x.0) parsed) (accepted_framed (call capture place rows) (refusal_is ∙ ok)).some
 
-      pub meets : {e : Entry} {written : List ℕ} → e ≡ entry_of (call capture place rows) → written ≡ put index done e
-          → Going after written (done + 1) (place + a.summary.header.bytes)
+      pub meets : {bytes : ℕ} {e : Entry} {written : List ℕ} → bytes ≡ a.summary.header.bytes → e ≡ entry_of (call capture place rows) → written ≡ put index done e
+          → Going after written (done + 1) (place + bytes)
       unfolding filled puts
-      meets {e} {written} is stored = record {
+      meets {bytes} {e} {written} size is stored = record {
         left = next.left;
-        inside = within;
-        enough = omega (arith, next.enough, moves);
-        same = there ∙ next.same;
+        inside = omega (arith, size, within);
+        enough = omega (arith, size, next.enough, moves);
+        same = ap (λ n. filled written (done + 1) (walk capture next.left (place + n) after)) size ∙ there ∙ next.same;
         long = long ∙ g.long;
         index_long = ap length stored ∙ put_long index done e ∙ g.index_long;
-        counted = omega (arith, g.counted, moves);
+        counted = omega (arith, size, g.counted, moves);
       }
         where
-          rest : ℕ → List ℤ → (Answer × List ℕ) × List ℤ
+          rest : ℕ → List ℤ → (Result ℕ Refusal × List ℕ) × List ℤ
           rest p room =
               let w = walk capture next.left p room in
-              ((record { refusal = w.refusal; entries = done + suc (length w.entries) }, puts (put index done (entry_of (call capture place rows))) (done + 1) w.entries), w.room)
+              ((cond (eqb w.refusal 0) (Ok (done + suc (length w.entries))) (Err NoFields), puts (put index done (entry_of (call capture place rows))) (done + 1) w.entries), w.room)
 
           there : filled written (done + 1) (walk capture next.left (place + a.summary.header.bytes) after) ≡ filled index done (walk capture (suc next.left) place rows)
           there =
               let w = walk capture next.left (place + a.summary.header.bytes) after in
               let count : done + 1 + length w.entries ≡ done + suc (length w.entries) = omega arith in
-              (λ i. ((record { refusal = w.refusal; entries = count i }, puts ((stored ∙ ap (put index done) is) i) (done + 1) w.entries), w.room))
+              (λ i. ((cond (eqb w.refusal 0) (Ok (count i)) (Err NoFields), puts ((stored ∙ ap (put index done) is) i) (done + 1) w.entries), w.room))
               ∙ (λ i. rest (place + (parsed i).0.summary.header.bytes) (parsed i).1)
               ∙ sym (ap (filled index done) (accepts capture next.left place rows (refusal_is ∙ ok)))

@@ -22,7 +22,7 @@ use Rattle.salvage.proofs.Loop.{stays, refused_over, ended_over, unmet_at_seven,
 use Rattle.salvage.proofs.Parsed.{ends_inside, same_answer, same_room}
 use Rattle.index.specs.Index.{entry_of, is_over, ◌before◌, met, stride, Walk, walk, walk_from}
 use Rattle.index.specs.Indexes.{frames_in, Inside, MeetsFrames}
-use Rattle.index.specs.declared.Entry.{Entry}
+use Rattle.index.specs.declared.outcome.Entry.{Entry}
 use Rattle.index.proofs.Walks.{never, not_short, stops_there, goes_on, nothing_there, inside_there, strides}
 
 over_of : (n : ℕ) → is_over n ≡ true → ¬ (n ≡ 7) → is_short n ≡ true

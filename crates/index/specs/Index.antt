@@ -6,8 +6,8 @@ use Rattle.ac3.specs.Later.{is_short}
 use Rattle.ac3.specs.Promise.{Call, call, listed, answer_to}
 use Rattle.rows.specs.Found.{value_of}
 use Rattle.salvage.specs.Walk.{no_fields, is_full}
-use Rattle.index.specs.declared.Answer.{Answer}
-use Rattle.index.specs.declared.Entry.{Entry}
+use Rattle.index.specs.Refusals.{Answer}
+use Rattle.index.specs.declared.outcome.Entry.{Entry}
 
 -- ---- an entry: place, length, acmod, and the dialnorms of the first and the second programme
 

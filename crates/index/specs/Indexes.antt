@@ -13,8 +13,8 @@ use Rattle.salvage.specs.Salvages.{answer_at, Each}
 use Rattle.salvage.specs.Walk.{no_fields}
 use Rattle.salvage.specs.Walk as salvage
 use Rattle.index.specs.Index.{entry_width, numbers_of, room_in, entry_in, no_room, not_there, Walk, walk_from, indexed}
-use Rattle.index.specs.declared.Answer.{Answer}
-use Rattle.index.specs.declared.Entry.{Entry}
+use Rattle.index.specs.Refusals.{Answer}
+use Rattle.index.specs.declared.outcome.Entry.{Entry}
 
 -- ---- every entry is a frame
 

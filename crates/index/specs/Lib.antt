@@ -1,3 +1,4 @@
+pub mod Refusals
 pub mod Index
 pub mod Filled
 pub mod Indexes

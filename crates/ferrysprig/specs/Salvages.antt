@@ -1,6 +1,6 @@
 -- An answer about a salvage as three numbers: the refusal, the list entries, the bytes written.
 use Rattle.std.specs.Prelude.{List, [], ◌∷◌, ℕ, ℤ}
-use Rattle.salvage.specs.declared.Answer.{Answer}
+use Rattle.salvage.specs.Refusals.{Answer}
 
 abbrev pub salvage_numbers : Answer → List ℕ
 salvage_numbers a = a.refusal ∷ a.entries ∷ a.bytes ∷ []

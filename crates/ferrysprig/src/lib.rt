@@ -18,6 +18,7 @@ ghost use Rattle.edits.specs.Edits as edits;
 ghost use Rattle.ac3.specs.Apart.{header_to};
 ghost use Rattle.ferrysprig.specs.Apart.{header_told, blocks_held};
 ghost use Rattle.salvage.specs.Lent.{salvaged};
+ghost use Rattle.salvage.specs.Refusals.{as_numbers};
 ghost use Rattle.index.specs.Index.{indexed};
 ghost use Rattle.aht.specs.Aht.{aht_of};
 ghost use Rattle.ferrysprig.specs.Aht.{aht_numbers};
@@ -221,11 +222,18 @@ pub fn ferrysprig_set(
     }
 }
 
-// The numbers of an answer about a salvage. They count entries and bytes of a capture, so they are as wide as places are.
-fn salvage_numbers(a: salvage::Answer) -> [usize; SALVAGE_ANSWER]
-    ensures { result ≡ salvage_numbers a }
+// The numbers of how a salvage ended. They count entries and bytes of a capture, so they are as wide as places are.
+fn salvage_numbers(ended: Result<salvage::Done, salvage::Refused>) -> [usize; SALVAGE_ANSWER]
+    ensures { result ≡ salvage_numbers (as_numbers ended) }
 {
-    [a.refusal as usize, a.entries, a.bytes]
+    match ended {
+        Ok(done) => [0, done.entries, done.bytes],
+        Err(refused) => [
+            usize::from(refused.refusal.number()),
+            refused.done.entries,
+            refused.done.bytes,
+        ],
+    }
 }
 
 // Goes through a broken capture: its frames are written one after the other, frames and gaps are listed, three numbers to an entry (kind,

@@ -9,7 +9,7 @@ use borrow.Rule.Slice.PartMut.{put_mid}
 use Rattle.writer.proofs.Written.{in_front_lem}
 use Rattle.salvage.specs.Walk.{Entry, entry_width, Kept, refuse, with}
 use Rattle.salvage.specs.Lent.{in_front, numbers, Holds}
-use Rattle.salvage.specs.declared.Answer.{Answer}
+use Rattle.salvage.specs.Refusals.{Answer}
 
 module _ (xs run : List ℕ) (fits : length xs ≤ length run) where
   pub length_in_front : length (in_front xs run) ≡ length run

@@ -1,7 +1,7 @@
 -- The loop's invariant: what is left to walk from here is the whole walk. One law for each way round and out. Assumes nothing.
 use mathlib.Core.Bool.{Bool, true, false, cond, ◌&&◌, ◌||◌}
 use mathlib.Core.List.{List}
-use mathlib.Core.Path.{◌≡◌, refl, sym, ap, ◌∙◌}
+use mathlib.Core.Path.{◌≡◌, refl, sym, ap, subst, ◌∙◌}
 use Prim.Native.Nat.{ℕ, zero, suc, ◌+◌, ◌≤◌, ◌<◌}
 use native.Mathlib.Omega.{arith}
 use borrow.Author.Tests.{lt-ltb, le-ltb, eq-eqb, ne_eqb, eqb-true, eqb-false}
@@ -12,7 +12,7 @@ use Rattle.ac3.specs.Frame.{answer}
 use Rattle.ac3.specs.declared.Answer as parse
 use Rattle.salvage.specs.Walk.{Rooms, Kept, nothing, no_fields, refuse, ◌then◌, close_gap, is_met, Walk, meet, onward, goes, step, walk, walked, salvage}
 use Rattle.salvage.specs.Lent.{numbers, shown, rooms_in, salvaged, Holds, Does}
-use Rattle.salvage.specs.declared.Answer.{Answer}
+use Rattle.salvage.specs.Refusals.{Answer}
 use Rattle.salvage.proofs.Lent.{refusal_of_lem, list_length, out_length}
 use Rattle.salvage.specs.Passed.{Passed}
 use Rattle.salvage.proofs.Unsynced.{passed_inside}
@@ -198,8 +198,8 @@ module _ (capture : List ℕ) (rows₀ : List ℤ) (list₀ out₀ : List ℕ) w
           rw (ap (λ x. x.0) parsed)
           (moves capture place rows (sym (ap (λ x. x.0.refusal) parsed) ∙ accepted_there a.refusal met (λ seven. unmet_at_seven capture rooms a seven from place g.kept (going_there going))))
 
-      pub goes_on : d.refusal ≡ 0 → Going after list' out' d (place + size) (place + size)
-      goes_on going = record {
+      past_it : d.refusal ≡ 0 → Going after list' out' d (place + size) (place + size)
+      past_it going = record {
         kept = meet capture rooms a from place g.kept;
         left = next.left;
         inside = within;
@@ -211,6 +211,9 @@ module _ (capture : List ℕ) (rows₀ : List ℤ) (list₀ out₀ : List ℕ) w
         list_long = list_length held;
         out_long = out_length held;
       }
+
+      pub goes_on : {n : ℕ} → n ≡ size → d.refusal ≡ 0 → Going after list' out' d (place + n) (place + n)
+      goes_on same going = subst (λ n. Going after list' out' d (place + n) (place + n)) (sym same) (past_it going)
 
       pub refuses : ¬ (d.refusal ≡ 0) → ((d, (list', out')), after) ≡ salvaged capture rows₀ list₀ out₀
       refuses stop =

@@ -11,8 +11,16 @@ use lib.Seq.{sets}
 use Rattle.ac3.specs.declared.Answer as parse
 use Rattle.salvage.specs.Walk.{entry_width, Rooms, Kept, no_output, no_entry, no_fields, refuse, frame, gap, ◌then◌, close_gap, keep_frame, is_full, bytes_at, meet}
 use Rattle.salvage.specs.Lent.{in_front, rooms_in, Holds, Does}
-use Rattle.salvage.specs.declared.Answer.{Answer}
+use Rattle.salvage.specs.Refusals.{number, Answer}
+use Rattle.salvage.specs.declared.outcome.Refusal.{Refusal}
+use Rattle.salvage.specs.declared.outcome.Refusal.TheVariants.{NoOutput, NoEntry, NoFields}
 use Rattle.salvage.proofs.Lent.{entries_of, bytes_of, refusal_of_lem, list_length, out_length, stops, goes_on}
+
+-- no refusal has the number that tells of none
+pub not_none : (r : Refusal) → ¬ (number r ≡ 0)
+not_none NoOutput z = absurd (omega (arith, z))
+not_none NoEntry z = absurd (omega (arith, z))
+not_none NoFields z = absurd (omega (arith, z))
 
 abbrev told : ℕ → Answer → Answer
 told n d = record { refusal = n; entries = d.entries; bytes = d.bytes }

@@ -1,7 +1,7 @@
 -- What the caller of a salvage is told, and what the lent runs hold after it.
 use Rattle.std.specs.Prelude.{List, [], ◌∷◌, ◌++◌, ◌≡◌, ℕ, ◌*◌, ◌/◌, ◌≤◌, ℤ, length, drop}
 use Rattle.salvage.specs.Walk.{Entry, entry_width, Rooms, Kept, walked, salvage}
-use Rattle.salvage.specs.declared.Answer.{Answer}
+use Rattle.salvage.specs.Refusals.{Answer}
 
 -- in front of a lent run, the rest of which is as it was
 abbrev pub in_front : List ℕ → List ℕ → List ℕ

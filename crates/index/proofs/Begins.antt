@@ -1,7 +1,7 @@
 -- Where the walk of a call begins: the definition's cases, each from what the code has found there. Assumes nothing.
-use mathlib.Core.Bool.{Bool, true, false, not, cond, ◌&&◌}
+use mathlib.Core.Bool.{Bool, true, false, cond, ◌&&◌}
 use mathlib.Core.List.{List}
-use mathlib.Core.Path.{◌≡◌, refl, sym, ap, ◌∙◌}
+use mathlib.Core.Path.{◌≡◌, sym, ap, ◌∙◌}
 use Prim.Native.Nat.{ℕ, suc, ◌+◌, ◌-◌, ◌≤◌, ◌<◌}
 use native.Mathlib.Omega.{arith}
 use borrow.Author.Tests.{lt-ltb, le-ltb, eq-eqb, ne_eqb}
@@ -16,23 +16,15 @@ use Rattle.index.specs.declared.outcome.Entry.{Entry}
 use Rattle.index.proofs.Entries.{same_as_itself, same_numbers}
 
 -- two entries of one place that are compared
-module _ (e f : Entry) (place : e.place ≡ f.place) {differ : Bool} (told : differ ≡ not (eqb e.place f.place && same_entry e f)) where
-  by_the_rest : differ ≡ not (same_entry e f)
-  by_the_rest = told ∙ ap (λ b. not (b && same_entry e f)) (eq-eqb e.place f.place place)
+module _ (e f : Entry) (place : e.place ≡ f.place) {same : Bool} (told : same ≡ eqb e.place f.place && same_entry e f) where
+  by_the_rest : same ≡ same_entry e f
+  by_the_rest = told ∙ ap (λ b. b && same_entry e f) (eq-eqb e.place f.place place)
 
-  pub unlike : differ ≡ true → same_entry e f ≡ false
-  unlike d = go (same_entry e f) (sym by_the_rest ∙ d)
-    where
-      go : (b : Bool) → not b ≡ true → b ≡ false
-      go true d = sym d
-      go false d = refl
+  pub unlike : same ≡ false → same_entry e f ≡ false
+  unlike d = sym by_the_rest ∙ d
 
-  pub alike : differ ≡ false → e ≡ f
-  alike d = same_numbers e f place (go (same_entry e f) (sym by_the_rest ∙ d))
-    where
-      go : (b : Bool) → not b ≡ false → b ≡ true
-      go true d = refl
-      go false d = sym d
+  pub alike : same ≡ true → e ≡ f
+  alike d = same_numbers e f place (sym by_the_rest ∙ d)
 
 module _ (capture : List ℕ) (rows : List ℤ) (index : List ℕ) where
   pub afresh : (entries : ℕ) → entries ≡ 0 → start 0 0 rows ≡ begin capture rows index entries

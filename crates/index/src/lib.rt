@@ -65,11 +65,7 @@ fn put(index: &mut [usize], entries: usize, e: Entry)
 {
     if entries < index.len() / ENTRY {
         let at = entries * ENTRY;
-        index[at] = e.place;
-        index[at + 1] = e.size;
-        index[at + 2] = e.acmod;
-        index[at + 3] = e.dialnorm;
-        index[at + 4] = e.second;
+        index[at..at + ENTRY].copy_from_slice(&[e.place, e.size, e.acmod, e.dialnorm, e.second]);
     }
 }
 
@@ -149,13 +145,10 @@ fn begin(
     }
     let last = entry_at(index, entries - 1);
     let parsed = ac3::parse(capture, last.place, rows);
-    if parsed.refusal != 0 {
-        return Err(Refusal::NotThere);
+    if parsed.refusal == 0 && entry_of(rows, &parsed, last.place) == last {
+        return Ok(last.place + last.size);
     }
-    if entry_of(rows, &parsed, last.place) != last {
-        return Err(Refusal::NotThere);
-    }
-    Ok(last.place + last.size)
+    Err(Refusal::NotThere)
 }
 
 // Walks from a place on. Where room may lack, a first walk counts, behind all that there is room for, so that it writes nothing.

@@ -25,9 +25,7 @@ fn put_entry(list: &mut [usize], entries: usize, kind: Kind, place: usize, size:
     ensures { list.new ≡ sets list.old (entries * entry_width) (kind_number kind ∷ place ∷ size ∷ []) }
 {
     let at = entries * ENTRY;
-    list[at] = kind.number();
-    list[at + 1] = place;
-    list[at + 2] = size;
+    list[at..at + ENTRY].copy_from_slice(&[kind.number(), place, size]);
 }
 
 // A frame is met where parsing accepts, or answers that the field room is too short.

@@ -1,8 +1,7 @@
 -- Writing that was begun: what was written so far, and what is still to come. Assumes nothing.
 use mathlib.Core.List.{List, [], ◌++◌, append-nil, append_assoc}
-use mathlib.Core.Path.{◌≡◌, refl, sym, ap, ◌∙◌}
+use mathlib.Core.Path.{◌≡◌, sym, ap, ◌∙◌}
 use Prim.Native.Nat.{ℕ, ◌+◌}
-use native.Mathlib.Omega.{arith}
 use lib.ListN.{length}
 use lib.Seq.{sets, length-sets}
 use Rattle.listing.proofs.Left.{both}
@@ -13,9 +12,6 @@ pub record Begun (out₀ : List ℕ) (at : ℕ) (whole rest out : List ℕ) (to 
   pub place : to ≡ at + length done
   pub bytes : out ≡ sets out₀ at done
   pub left : done ++ rest ≡ whole
-
-pub begin : (out : List ℕ) (at : ℕ) (whole : List ℕ) → Begun out at whole whole out at
-begin out at whole = record { done = []; place = omega arith; bytes = refl; left = refl }
 
 module _ {out₀ : List ℕ} {at : ℕ} {whole out : List ℕ} {to : ℕ} where
   pub long : {rest : List ℕ} → Begun out₀ at whole rest out to → length out ≡ length out₀

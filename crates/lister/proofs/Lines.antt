@@ -35,12 +35,6 @@ module _ (count : ℕ) (rows : List ℤ) where
   abbrev pub rows_from : ℕ → List (List ℕ)
   rows_from row = rows_in (count - row) (drop (row * row_width) rows)
 
-  pub rows_start : rows_from 0 ≡ rows_in count rows
-  rows_start = ap (λ n. rows_in n rows) all
-    where
-      all : count - 0 ≡ count
-      all = omega arith
-
   pub rows_from_lem : (row : ℕ) → row < count → rows_from row ≡ map stored (take (row * row_width + row_width - row * row_width) (drop (row * row_width) rows)) ∷ rows_from (row + 1)
   unfolding rows_in
   rows_from_lem row h =

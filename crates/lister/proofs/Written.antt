@@ -1,14 +1,14 @@
 -- What is written of a call's listing, from what was written of its answer's. Assumes nothing.
-use mathlib.Core.List.{List, []}
+use mathlib.Core.List.{List}
 use mathlib.Core.Path.{◌≡◌, refl, sym, ap, ◌∙◌}
-use Prim.Native.Nat.{ℕ, ◌≤◌, ◌<◌}
+use Prim.Native.Nat.{ℕ, ◌≤◌}
 use native.Mathlib.Omega.{arith}
-use borrow.Author.Tests.{lt-ltb, le-ltb}
+use borrow.Author.Tests.{le-ltb}
 use lib.IntN.{ℤ, pos}
-use lib.ListN.{length, take, drop, replicate, length-append, length-replicate}
+use lib.ListN.{length, take, drop, length-append, length-replicate}
 use lib.Seq.{sets, take_at}
 use Rattle.ac3.specs.declared.Answer.{Answer}
-use Rattle.ac3.specs.Promise.{Call, call, answer_to}
+use Rattle.ac3.specs.Promise.{Call, answer_to}
 use Rattle.ac3.proofs.Promise.{promised}
 use Rattle.ac3.proofs.Within.{kept_within}
 use Rattle.listing.specs.Listing.{Valid, text}
@@ -23,12 +23,6 @@ whole c out h = simp (le-ltb (length out) (room_needed c) h)
 module _ (c : Call) {a : Answer} {after : List ℤ} (out : List ℕ) (e : (a, after) ≡ answer_to c) where
   rows : a.rows ≡ (answer_to c).0.rows
   rows = ap (λ x. x.0.rows) e
-
-  pub none_written : length out < most_text a.rows → Written c out 0 out
-  none_written h =
-      let lt : length out < room_needed c = omega (arith, rows) in
-      let is : written c out ≡ [] = simp (lt-ltb (length out) (room_needed c) lt) in
-      record { counted = rw is; bytes = rw is; within = omega arith; valid = λ room. absurd (omega arith) }
 
   pub all_written :
       {size : ℕ} {left : List ℕ}
@@ -58,13 +52,11 @@ few frame = omega (arith, (kept_within c _ _ (promised c refl)).rows, long)
     long = length-replicate numbers_lent (pos 0)
 
 pub printed :
-    (frame out : List ℕ) {room : List ℤ} {size : ℕ} {left : List ℕ}
+    (frame out : List ℕ) {size : ℕ} {left : List ℕ}
     → most_text rows_lent ≤ length out
-    → room ≡ replicate numbers_lent (pos 0)
-    → Written (call frame 0 room) out size left
+    → Written (frame_call frame) out size left
     → Printed frame size left
-printed frame out {room} {size} {left} h same w =
-    let all : Written (frame_call frame) out size left = rw same at w in
+printed frame out {size} {left} h all =
     let enough : room_needed (frame_call frame) ≤ length out = omega (arith, few frame) in
     record {
       bytes = ap (take size) all.bytes ∙ take_at (written (frame_call frame) out) (drop size out) size (sym all.counted) ∙ whole (frame_call frame) out enough;

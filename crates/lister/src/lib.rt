@@ -1,13 +1,13 @@
 // A frame's listing as text: what the program `list` prints. (Public because the programs stand in crates above.)
 #![tactic(auto)]
 
-ghost use Rattle.std.specs.Prelude.{map, not, ◌≡◌, ◌+◌, ◌*◌, ◌≤◌, ◌<◌, eqb, pos, length, replicate};
+ghost use Rattle.std.specs.Prelude.{map, not, ◌≡◌, ◌+◌, ◌*◌, ◌≤◌, ◌<◌, eqb, length};
 ghost use Rattle.std.proofs.lemmas.List.Edits.{sets};
 ghost use Rattle.syntax.specs.Numbers.{row_width};
 ghost use Rattle.ac3.specs.Promise.{call, answer_to};
 ghost use Rattle.ac3.specs.RowBound.{most_rows};
 ghost use Rattle.listing.specs.Listing.{Each, Line, Valid, line, last_count, joined, text};
-ghost use Rattle.lister.specs.Listed.{stored, rows_in, last_of, last_line, listing_of, rows_lent, numbers_lent};
+ghost use Rattle.lister.specs.Listed.{stored, rows_in, last_of, last_line, listing_of, rows_lent};
 ghost use Rattle.lister.specs.Written.{most_text, Written, Printed};
 
 use ac3::Answer;
@@ -46,10 +46,8 @@ fn put_line(numbers: &[i32], out: &mut [u8], at: usize) -> usize
     ensures line { Line (length numbers.now) (map stored numbers.now) }
 {
     let mut to = at;
-    let mut i = 0;
-    while i < numbers.len() {
-        to = put_ended(out, to, stored(numbers[i]), numbers.len() - i - 1);
-        i += 1;
+    for (i, &n) in numbers.iter().enumerate() {
+        to = put_ended(out, to, stored(n), numbers.len() - i - 1);
     }
     to
 }
@@ -61,37 +59,24 @@ fn put_rows(rows: &[i32], count: usize, out: &mut [u8]) -> usize
     ensures each { Each (Line row_width) (rows_in count rows.now) × (result ≤ count * 99) }
 {
     let mut to = 0;
-    let mut row = 0;
-    while row < count {
+    for row in 0..count {
         let from = row * ROW;
-        let end = from + ROW;
-        to = put_line(&rows[from..end], out, to);
-        row += 1;
+        to = put_line(&rows[from..from + ROW], out, to);
     }
     to
-}
-
-// A count of rows is small, as a number of the last line.
-fn small(n: usize) -> i32
-    requires { n ≤ most_rows }
-    ensures { result ≡ pos n }
-{
-    n as i32
 }
 
 // The last line from a place on; the place after it.
 fn put_last(a: Answer, out: &mut [u8], at: usize) -> usize
     requires { (a.rows ≤ most_rows) × (at + 63 ≤ length out.old) }
     ensures value { (result ≡ at + length (last_line a)) × (out.new ≡ sets out.old at (last_line a)) }
-    ensures line { Line (last_count (not (eqb a.refusal 0))) (map stored (last_of a)) × (result ≤ at + 63) }
+    ensures line { Line (last_count (not (eqb a.refusal 0))) (map stored (last_of a)) }
 {
-    let rows = small(a.rows);
+    let rows = a.rows as i32;
     let bit = a.bit as i32;
     if a.refusal == 0 {
-        let summary = a.summary;
-        let header = summary.header;
         let said = put_word(out, at, 0, 6);
-        return put_line(&[rows, header.bytes as i32, bit], out, said);
+        return put_line(&[rows, a.summary.header.bytes as i32, bit], out, said);
     }
     let said = put_word(out, at, 6, 14);
     put_line(
@@ -124,19 +109,12 @@ pub fn text(capture: &[u8], place: usize, rows: &mut [i32], out: &mut [u8]) -> u
     put_text(rows, answer, out)
 }
 
-// The ensures gives the length, which lending the array needs, and the numbers.
-fn no_rows() -> [i32; NUMBERS]
-    ensures { (numbers_lent ≡ length result) × (result ≡ replicate numbers_lent (pos 0)) }
-{
-    [0i32; NUMBERS]
-}
-
 // The listing of the frame at the start of some bytes, as the programs write it. (By the requires a program has to show that its buffer is
 // large enough: then the bytes that it writes are the text.)
 pub fn listed(frame: &[u8], out: &mut [u8]) -> usize
     requires { most_text rows_lent ≤ length out.old }
     ensures { Printed frame.now result out.new }
 {
-    let mut rows = no_rows();
+    let mut rows = [0i32; NUMBERS];
     text(frame, 0, &mut rows, out)
 }

@@ -31,43 +31,36 @@ pub struct Field {
 fn programme_of(n: i32) -> u8
     ensures { result ≡ programme_of n }
 {
-    if n < 0 {
-        return NONE;
-    }
-    signed::clamp(n, 255) as u8
+    u8::try_from(n).unwrap_or(NONE)
 }
 
 // The role of a number, for programme p; a number that is no role's is Plain's.
+#[tactic(auto, unfolding(crate::specs::Fields::role_of))]
 fn role_of(n: usize, p: u8) -> Role
     ensures { result ≡ role_of n p }
 {
-    let roles = [
-        Role::Plain,
-        Role::Sync,
-        Role::Crc1,
-        Role::Crc2,
-        Role::CrcRsv,
-        Role::FrameSize,
-        Role::Dialnorm(p),
-        Role::ComprExists(p),
-        Role::Compr(p),
-        Role::DynrngExists(p),
-        Role::Dynrng(p),
-        Role::Skiple,
-        Role::Skipl,
-        Role::Skipfld,
-        Role::Addbsi,
-        Role::Mantissas,
-        Role::AuxBits,
-        Role::AuxDataL,
-        Role::AuxDataE,
-        Role::BlkStrtInfoE,
-        Role::BlkStrtInfo,
-    ];
-    if n < roles.len() {
-        roles[n]
-    } else {
-        Role::Plain
+    match n {
+        1 => Role::Sync,
+        2 => Role::Crc1,
+        3 => Role::Crc2,
+        4 => Role::CrcRsv,
+        5 => Role::FrameSize,
+        6 => Role::Dialnorm(p),
+        7 => Role::ComprExists(p),
+        8 => Role::Compr(p),
+        9 => Role::DynrngExists(p),
+        10 => Role::Dynrng(p),
+        11 => Role::Skiple,
+        12 => Role::Skipl,
+        13 => Role::Skipfld,
+        14 => Role::Addbsi,
+        15 => Role::Mantissas,
+        16 => Role::AuxBits,
+        17 => Role::AuxDataL,
+        18 => Role::AuxDataE,
+        19 => Role::BlkStrtInfoE,
+        20 => Role::BlkStrtInfo,
+        _ => Role::Plain,
     }
 }
 
@@ -93,8 +86,7 @@ pub fn field_of(row: [i32; ROW]) -> Field
 pub fn row_of(field: Field) -> [i32; ROW]
     ensures { result ≡ row_of field }
 {
-    let role = field.role;
-    let numbers = syntax::rows::role_numbers(role);
+    let numbers = syntax::rows::role_numbers(field.role);
     [
         field.name,
         numbers.0 as i32,
@@ -204,8 +196,7 @@ pub fn parse_fields(capture: &[u8], place: usize, fields: &mut [Field]) -> Answe
 {
     let mut rows = no_rows();
     let answer = parse_within(fields.len(), capture, place, &mut rows);
-    let count = answer.rows;
-    offer(&rows, count, fields);
+    offer(&rows, answer.rows, fields);
     answer
 }
 
@@ -216,7 +207,6 @@ pub fn parse_through(capture: &[u8], place: usize, rows: &mut [i32]) -> Answer
 {
     let mut fields = no_fields();
     let answer = parse_fields(capture, place, &mut fields);
-    let count = answer.rows;
-    rows_of(&fields, count, rows);
+    rows_of(&fields, answer.rows, rows);
     answer
 }

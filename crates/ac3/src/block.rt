@@ -242,9 +242,10 @@ pub struct Left {
     pub had: [bool; 5],
 }
 
-// The exponents in force stand beside the state, and so does what was counted of the slots before. Whatever the blocks before were, if `had`
-// and the tally tell of them whether coordinates were sent, they do so of those blocks and this one.
-pub fn audio_block(
+// The sections of a block, in the order of the table. The exponents in force stand beside the state, and so does what was counted of the slots
+// before. Whatever the blocks before were, if `had` and the tally tell of them whether coordinates were sent, they do so of those blocks and
+// this one.
+fn sections(
     r: &mut Reader<'_>,
     exps: &mut [[i16; 256]; 7],
     memos: &mut [[u32; 16]; 7],
@@ -311,4 +312,39 @@ pub fn audio_block(
         tally,
         had,
     })
+}
+
+// The same; and where the block is refused, what was counted of the slots is forgotten, since some of their exponents may be new already. So it
+// is true of the exponents whatever is read.
+pub fn audio_block(
+    r: &mut Reader<'_>,
+    exps: &mut [[i16; 256]; 7],
+    memos: &mut [[u32; 16]; 7],
+    header: Header,
+    blk: u8,
+    old: State,
+    tally: Tally,
+    had: [bool; 5],
+) -> Result<Left, Refusal>
+    requires blk_bound { (blk < 6) × (tally.coupled ≤ blk) }
+    requires sound_header { SoundHeader header }
+    requires sound_state { SoundState old }
+    requires sound_exps { SoundExps exps.old }
+    requires kept { Kept header.fscod memos.old exps.old }
+    ensures reads { (earlier : List Sending) → Tallied earlier tally.coordinates had → (this : Sending)
+        × Reads (grammar.audio_block header blk (record { state = old; exps = exps.old; tally = tally; blocks = earlier })) r.old
+        (with_lent (λ left. record { state = left.state; exps = exps.new; tally = left.tally; blocks = earlier ++ this ∷ [] }) result) r.new
+        × IfOk result (λ left. Tallied (earlier ++ this ∷ []) left.tally.coordinates left.had) }
+    ensures sound_state_2 { IfOk result (λ left. SoundState left.state) }
+    ensures sound_exps_2 { SoundExps exps.new }
+    ensures coupled_bound { IfOk result (λ left. left.tally.coupled ≤ blk + 1) }
+    ensures kept_2 { Kept header.fscod memos.new exps.new }
+{
+    match sections(r, exps, memos, header, blk, old, tally, had) {
+        Ok(left) => Ok(left),
+        Err(refusal) => {
+            *memos = [[0; 16]; 7];
+            Err(refusal)
+        }
+    }
 }

@@ -17,9 +17,10 @@ fn fitting(room: usize, at: usize, n: usize) -> usize
 pub fn copy(from: &[u8], run: &mut [u8], at: usize)
     ensures { run.new ≡ sets run.old at from.now }
 {
-    let n = fitting(run.len(), at, from.len());
-    let start = at.min(run.len());
-    run[start..start + n].copy_from_slice(&from[..n]);
+    // By index: with `copy_from_slice` the archive for C would need memmove, and it needs memcpy and memset alone.
+    for i in 0..fitting(run.len(), at, from.len()) {
+        run[at + i] = from[i];
+    }
 }
 
 // Writes one byte so many times into a run, from a place on.

@@ -1,6 +1,16 @@
--- `writer::copy` meets its contract: what fits is copied to where it fits. Assumes nothing.
-use Rattle.writer.proofs.Written.{part}
+-- `writer::copy` meets its contract: a turn writes one more, and all that fit are all. Assumes nothing.
+use Rattle.std.proofs.Common.{◌≡◌, ◌∙◌, ◌+◌, ap, get_or, set, arith}
+use Rattle.writer.proofs.Written.{store, whole}
 use Rattle.writer.proofs.copy.Goals as goal
 
+pub loop-i-preserved : goal.loop-i-preserved
+loop-i-preserved c =
+    let a = c.args in
+    let i = c.loop-i.i in
+    ap (λ l. set l (a.at + i) (get_or a.from.now i 0)) c.loop-i.invariant
+    ∙ store a.from.now a.run.now a.at i 0 (omega (arith, c.fitting-i-end.ensures))
+
 pub returns : goal.returns
-returns c = part c.args.from.now c.args.run.now c.args.at _ c.min-start.result c.fitting-n.result c.min-start.ensures c.fitting-n.ensures c.copy_from_slice.ensures.after
+returns c =
+    let n : c.loop-i.i ≡ c.fitting-i-end.result = omega arith in
+    c.loop-i.invariant ∙ whole c.args.from.now c.args.run.now c.args.at c.loop-i.i (n ∙ c.fitting-i-end.ensures)

@@ -16,7 +16,7 @@ use Rattle.syntax.specs.declared.Reader.{Reader}
 use Rattle.syntax.specs.declared.Refusal.{Refusal}
 use Rattle.syntax.specs.Place.{Place, Outcome, got, no, stand, and_then}
 use Rattle.syntax.specs.Refusals.{past}
-use Rattle.syntax.specs.Reads.{place, stepped, walked, with_lent, Same, Writes}
+use Rattle.syntax.specs.Reads.{place, outcome, stepped, walked, with_lent, Same, Writes}
 use Rattle.syntax.specs.Run.{sum}
 use Rattle.syntax.proofs.Sequence.{unchanged, onward}
 use Rattle.syntax.proofs.Walk.{walked_append}
@@ -94,17 +94,19 @@ walked_fits i (w ∷ ws) p h =
     rw (le-ltb p.limit (p.at + w) (omega arith), ← add_assoc p.at w (sum ws))
     (walked_fits i ws (stand (p.at + w) p) (omega arith))
 
--- ---- a walk that went well ends no earlier than it began
+-- ---- a walk goes on, never back, refused or not
 
-walks_on : (i : Item) (ws : List ℕ) (p q : Place) → got (tt {0}) q ≡ walked i ws p → p.at ≤ q.at
+walks_on : (i : Item) (ws : List ℕ) (p q : Place) (r : Result (Unit {0}) Refusal) → outcome r q ≡ walked i ws p → p.at ≤ q.at
 unfolding walked and_then
-walks_on i [] p q e = let same : q ≡ p = cc in omega (arith, ap (λ (r : Place). r.at) same)
-walks_on i (w ∷ ws) p q e = go (ltb p.limit (p.at + w)) e (walks_on i ws (stand (p.at + w) p) q)
+walks_on i [] p q (Ok tt) e = let same : q ≡ p = cc in omega (arith, ap (λ (r : Place). r.at) same)
+walks_on i [] p q (Err x) e = let z : ◌≡◌ {A = ℕ} 0 1 = cc in absurd (omega arith)
+walks_on i (w ∷ ws) p q r e = go (ltb p.limit (p.at + w)) r e (walks_on i ws (stand (p.at + w) p) q r)
   where
-    go : (b : Bool) → got (tt {0}) q ≡ and_then (cond b (no (past i) p) (got (tt {0}) (stand (p.at + w) p))) (λ _ r. walked i ws r)
-        → (got (tt {0}) q ≡ walked i ws (stand (p.at + w) p) → p.at + w ≤ q.at) → p.at ≤ q.at
-    go true f later = let z : ◌≡◌ {A = ℕ} 0 1 = cc in absurd (omega arith)
-    go false f later = omega (arith, later f)
+    go : (b : Bool) (r : Result (Unit {0}) Refusal) → outcome r q ≡ and_then (cond b (no (past i) p) (got (tt {0}) (stand (p.at + w) p))) (λ _ s. walked i ws s)
+        → (outcome r q ≡ walked i ws (stand (p.at + w) p) → p.at + w ≤ q.at) → p.at ≤ q.at
+    go true (Ok tt) f later = let z : ◌≡◌ {A = ℕ} 0 1 = cc in absurd (omega arith)
+    go true (Err x) f later = let same : q ≡ p = cc in omega (arith, ap (λ (r : Place). r.at) same)
+    go false r f later = omega (arith, later f)
 
-pub walked_from : (i : Item) (ws : List ℕ) {c d : Reader} → Writes (walked i ws) c (Ok tt) d → c.at ≤ d.at
-walked_from i ws {c} {d} h = walks_on i ws (place c) (place d) h.same
+pub walked_from : (i : Item) (ws : List ℕ) {c d : Reader} {r : Result (Unit {0}) Refusal} → Writes (walked i ws) c r d → c.at ≤ d.at
+walked_from i ws {c} {d} {r} h = walks_on i ws (place c) (place d) r h.same

@@ -38,7 +38,7 @@ impl Parts {
     }
 
     // The slots that were put there.
-    pub fn slots(&self) -> &[Part]
+    pub(crate) fn slots(&self) -> &[Part]
         requires { SoundParts self.now }
         ensures value { result.now ≡ listed self.now }
         ensures each_sound { (i : ℕ) → SoundPart (get_or result.now i no_part) }

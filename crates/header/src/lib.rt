@@ -1,5 +1,5 @@
 // The header of a frame: syncinfo (4.3.1) and bsi (4.3.2, or D.1.2 when bsid is 6). What is public here is so because the frame stands in a
-// crate above.
+// crate above. (Always inlined, so that one who reads a header alone has the reader in registers.)
 #![tactic(auto)]
 
 ghost use Rattle.std.specs.Prelude.{◌≡◌, cond, ◌<◌, ◌≤◌, eqb, IfOk};
@@ -35,6 +35,7 @@ pub const NO_HEADER: Header = Header {
 // ---- syncinfo
 
 // fscod, and the bytes of the frame. Most places of a capture have no sync word: nothing else is looked at there.
+#[inline(always)]
 fn syncinfo(r: &mut Reader<'_>) -> Result<(u8, u16), Refusal>
     ensures reads { Reads grammar.syncinfo r.old result r.new }
     ensures fscod_bound { IfOk result (λ sync. sync.0 < 3) }
@@ -54,6 +55,7 @@ fn syncinfo(r: &mut Reader<'_>) -> Result<(u8, u16), Refusal>
 // ---- bsi
 
 // One programme: the second one's names stand eight further on.
+#[inline(always)]
 fn programme_info(r: &mut Reader<'_>, p: u8) -> Result<(), Refusal>
     requires { p < 2 }
     ensures { Reads (grammar.programme_info p) r.old result r.new }
@@ -80,6 +82,7 @@ pub fn programmes(acmod: u8) -> u8
     if acmod == 0 { 2 } else { 1 }
 }
 
+#[inline(always)]
 fn programme_infos(r: &mut Reader<'_>, acmod: u8) -> Result<(), Refusal>
     ensures { Reads (syntax.each (grammar.programmes acmod) grammar.programme_info) r.old result r.new }
 {
@@ -90,6 +93,7 @@ fn programme_infos(r: &mut Reader<'_>, acmod: u8) -> Result<(), Refusal>
 }
 
 // D.1.2
+#[inline(always)]
 fn alternate_info(r: &mut Reader<'_>) -> Result<(), Refusal>
     ensures { Reads grammar.alternate_info r.old result r.new }
 {
@@ -107,6 +111,7 @@ fn alternate_info(r: &mut Reader<'_>) -> Result<(), Refusal>
     r.note_if(xbsi2e, plain(ENCINFO), 1)
 }
 
+#[inline(always)]
 fn time_codes(r: &mut Reader<'_>) -> Result<(), Refusal>
     ensures { Reads grammar.time_codes r.old result r.new }
 {
@@ -117,6 +122,7 @@ fn time_codes(r: &mut Reader<'_>) -> Result<(), Refusal>
 }
 
 // bsid 6 announces the alternate syntax.
+#[inline(always)]
 fn codes_or_alternate(r: &mut Reader<'_>, bsid: u32) -> Result<(), Refusal>
     ensures { Reads (cond (eqb bsid 6) grammar.alternate_info grammar.time_codes) r.old result r.new }
 {
@@ -127,6 +133,7 @@ fn codes_or_alternate(r: &mut Reader<'_>, bsid: u32) -> Result<(), Refusal>
     }
 }
 
+#[inline(always)]
 fn additional_info(r: &mut Reader<'_>) -> Result<(), Refusal>
     ensures { Reads grammar.additional_info r.old result r.new }
 {
@@ -138,6 +145,7 @@ fn additional_info(r: &mut Reader<'_>) -> Result<(), Refusal>
     Ok(())
 }
 
+#[inline(always)]
 fn bsi(r: &mut Reader<'_>, fscod: u8, bytes: u16) -> Result<Header, Refusal>
     requires { fscod < 3 }
     ensures reads { Reads (grammar.bsi fscod bytes) r.old result r.new }
@@ -166,6 +174,7 @@ fn bsi(r: &mut Reader<'_>, fscod: u8, bytes: u16) -> Result<Header, Refusal>
 }
 
 // The frame as far as addbsi. Where syncinfo is refused nothing else is looked at.
+#[inline(always)]
 pub fn read(r: &mut Reader<'_>) -> Result<Header, Refusal>
     ensures reads { Reads grammar.header r.old result r.new }
     ensures sound_header { IfOk result SoundHeader }

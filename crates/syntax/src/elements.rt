@@ -9,6 +9,7 @@ use crate::{Item, Reader, Refusal};
 
 impl Reader<'_> {
     // A flag that is there only where a test holds: else it counts as not set.
+    #[inline(always)]
     pub fn flag_if(&mut self, present: bool, item: Item) -> Result<bool, Refusal>
         ensures { Reads (grammar.read_if present false (grammar.flag item)) self.old result self.new }
     {
@@ -16,6 +17,7 @@ impl Reader<'_> {
     }
 
     // A value that is there only where a test holds: else it counts as 0.
+    #[inline(always)]
     pub fn take_if(&mut self, present: bool, item: Item, width: u16) -> Result<u32, Refusal>
         requires { width ≤ 16 }
         ensures reads { Reads (grammar.read_if present 0 (grammar.take item width)) self.old result self.new }
@@ -29,6 +31,7 @@ impl Reader<'_> {
     }
 
     // A value that is there only where a test holds, and that steers nothing.
+    #[inline(always)]
     pub fn note_if(&mut self, present: bool, item: Item, width: u16) -> Result<(), Refusal>
         requires { width ≤ 16 }
         ensures { Reads (grammar.when present (grammar.note item width)) self.old result self.new }

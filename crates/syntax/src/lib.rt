@@ -1,6 +1,7 @@
 // Reads the elements of a syncframe one after the other, and records each as a row of numbers in the rows that the caller lends. A method of
 // the reader that meets a refusal answers with it, and the reader stands where reading stopped: so the code of a syntax table is the table, one
-// call and a `?` for each line. What is public here is so because those who read a frame stand in crates above.
+// call and a `?` for each line. What is public here is so because those who read a frame stand in crates above. (The small methods are always
+// inlined: the compiler takes a call behind several `?` for a rare one, and a header alone took twice the instructions, docs/SPEED.md.)
 #![tactic(auto)]
 
 pub mod elements;

@@ -44,6 +44,7 @@ impl Reader<'_> {
     }
 
     // Reads a value of at most 16 bits.
+    #[inline(always)]
     pub fn take(&mut self, item: Item, width: u16) -> Result<u32, Refusal>
         requires { width ≤ 16 }
         ensures reads { Reads (grammar.take item width) self.old result self.new }
@@ -55,6 +56,7 @@ impl Reader<'_> {
     }
 
     // Reads a flag: one bit.
+    #[inline(always)]
     pub fn flag(&mut self, item: Item) -> Result<bool, Refusal>
         ensures { Reads (grammar.flag item) self.old result self.new }
     {
@@ -64,6 +66,7 @@ impl Reader<'_> {
     }
 
     // Records a value that steers nothing, and drops it.
+    #[inline(always)]
     pub fn note(&mut self, item: Item, width: u16) -> Result<(), Refusal>
         requires { width ≤ 16 }
         ensures { Reads (grammar.note item width) self.old result self.new }

@@ -45,6 +45,7 @@ pub fn shown(n: u8) -> i32
 }
 
 // Writes a row from place `to` on.
+#[inline(always)]
 fn write_row(rows: &mut [i32], to: usize, item: Item, start: u16, width: u16, value: u32)
     requires { (to + numbers.row_width ≤ length rows.old) × (value < 65536) }
     ensures { rows.new ≡ sets rows.old to (numbers.numbers (row spanning item start width value)) }
@@ -72,6 +73,7 @@ impl Reader<'_> {
     }
 
     // Records an element whose bits were found to fit, and stands after them: refused where no row is left.
+    #[inline(always)]
     fn enter(&mut self, item: Item, start: u16, width: u16, value: u32) -> Result<(), Refusal>
         requires { (start + width < 65536) × (value < 65536) }
         ensures { Writes (entered item start width value) self.old result self.new }
@@ -86,6 +88,7 @@ impl Reader<'_> {
     }
 
     // Records an element with its value and passes over its bits: refused where it would end past the frame. (Public for the readers.)
+    #[inline(always)]
     pub fn put(&mut self, item: Item, width: u16, value: u32) -> Result<(), Refusal>
         requires { value < 65536 }
         ensures { Writes (recorded item width value) self.old result self.new }

@@ -1,4 +1,5 @@
-// audblk (4.3.3): the sections of a block in the order of the syntax table.
+// audblk (4.3.3): the sections of a block in the order of the syntax table. (The large ones are never inlined: what they need of the stack is
+// given back before the mantissas, which are the deepest.)
 ghost use Rattle.std.specs.Prelude.{false, cond, ◌&&◌, ◌||◌, List, [], ◌∷◌, ◌++◌, ◌≡◌, ℕ, ◌+◌, ◌*◌, ◌<◌, ◌≤◌, get_or, IfOk};
 ghost use Rattle.syntax.specs.Grammar as syntax;
 ghost use Rattle.syntax.specs.Reads.{Reads, with_lent};
@@ -141,6 +142,7 @@ pub struct Coupled {
 }
 
 // Coupling strategy and coordinates, and rematrixing.
+#[inline(never)]
 fn coupling_section(
     r: &mut Reader<'_>,
     blk: u8,
@@ -169,6 +171,7 @@ pub struct Exponented {
 }
 
 // Exponent strategies, bandwidths and exponents.
+#[inline(never)]
 fn exponent_section(
     r: &mut Reader<'_>,
     exps: &mut [[i16; 256]; 7],
@@ -209,6 +212,7 @@ fn exponent_section(
 // ---- the whole block
 
 // Bit allocation information, as far as the skip field.
+#[inline(never)]
 fn alloc_state(
     r: &mut Reader<'_>,
     blk: u8,

@@ -24,7 +24,7 @@ extern "C" {
 #define FERRYSPRIG_VERSION "0.1.0"
 #define FERRYSPRIG_VERSION_NUMBER 100 /* 10,000 times the first part, 100 times the second, and the third */
 
-/* Bytes of stack that are enough for a call. (c/test.c measures it: the deepest call takes some 14,900, with what the loader takes
+/* Bytes of stack that are enough for a call. (c/test.c measures it: the deepest call takes some 14,100, with what the loader takes
    where the program finds memcpy and the others at their first use, which differs by processor.) */
 #define FERRYSPRIG_STACK_BYTES 20480
 

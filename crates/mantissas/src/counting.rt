@@ -68,10 +68,10 @@ pub fn count_bins(addresses: &[u8; 256], start: usize, end: usize) -> Counts
     }
 }
 
-// A block has at most seven slots of 253 mantissas, so nothing wraps.
+// A block has at most seven slots of 253 mantissas, so nothing wraps. (The methods are public, as the fields are: who holds counts can count on.)
 impl Counts {
     // One mantissa more.
-    pub(crate) fn with_one(self, bits: &[u8; 16], bap: u8) -> Counts
+    pub fn with_one(self, bits: &[u8; 16], bap: u8) -> Counts
         requires { AtMost (7 * 253) self × (bits.now ≡ mantissa_bits) × (bap < 16) }
         ensures { result ≡ counted self bap }
     {
@@ -84,7 +84,7 @@ impl Counts {
     }
 
     // These and others.
-    pub(crate) fn plus(self, more: Counts) -> Counts
+    pub fn plus(self, more: Counts) -> Counts
         requires { AtMost (7 * 253) self × AtMost (7 * 253) more }
         ensures { result ≡ plus self more }
     {
@@ -97,7 +97,7 @@ impl Counts {
     }
 
     // The bits that they take.
-    pub(crate) fn width(self) -> u32
+    pub fn width(self) -> u32
         requires { AtMost (7 * 253) self }
         ensures { result ≡ width_of self }
     {

@@ -37,8 +37,8 @@ impl Parts {
         self.count += 1;
     }
 
-    // The slots that were put there.
-    pub(crate) fn slots(&self) -> &[Part]
+    // The slots that were put there. (Public, as the list and the count are.)
+    pub fn slots(&self) -> &[Part]
         requires { SoundParts self.now }
         ensures value { result.now ≡ listed self.now }
         ensures each_sound { (i : ℕ) → SoundPart (get_or result.now i no_part) }

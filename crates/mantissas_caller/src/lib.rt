@@ -6,11 +6,16 @@
 mod tests {
     use mantissas::{Counts, Part, Parts};
 
-    const NO_COUNTS: Counts = Counts {
-        bits: 0,
-        ones: 0,
-        twos: 0,
-        fours: 0,
+    // The four counts, one by one: counts have no equality of their own.
+    fn each(n: Counts) -> (u32, u32, u32, u32) {
+        (n.bits, n.ones, n.twos, n.fours)
+    }
+
+    const BEFORE: Counts = Counts {
+        bits: 100,
+        ones: 20,
+        twos: 30,
+        fours: 40,
     };
 
     // Table 6.17: pointers 1, 2 and 4 are coded in groups, which take their bits as a whole; the others take their own.
@@ -19,15 +24,14 @@ mod tests {
     #[test]
     fn a_mantissa_is_counted_by_its_pointer(rt: HostRuntime) {
         for bap in 0..16u8 {
-            let counts = NO_COUNTS.with_one(tables::mantissa_bits(), bap);
-            let told = (counts.bits, counts.ones, counts.twos, counts.fours);
             let want = match bap {
-                1 => (0, 1, 0, 0),
-                2 => (0, 0, 1, 0),
-                4 => (0, 0, 0, 1),
-                _ => (OWN_BITS[bap as usize], 0, 0, 0),
+                1 => (100, 21, 30, 40),
+                2 => (100, 20, 31, 40),
+                4 => (100, 20, 30, 41),
+                _ => (100 + OWN_BITS[bap as usize], 20, 30, 40),
             };
-            assert_eq!(rt; told, want, "pointer {bap}");
+            let counts = BEFORE.with_one(tables::mantissa_bits(), bap);
+            assert_eq!(rt; each(counts), want, "pointer {bap}");
         }
     }
 
@@ -44,12 +48,14 @@ mod tests {
         let second = Counts {
             bits: 16,
             ones: 2,
-            twos: 2,
-            fours: 2,
+            twos: 4,
+            fours: 3,
         };
         assert_eq!(rt; first.width(), 6 + 5 + 7 + 7);
-        assert_eq!(rt; second.width(), 16 + 5 + 7 + 7);
-        assert_eq!(rt; first.plus(second).width(), 22 + 10 + 7 + 14);
+        assert_eq!(rt; second.width(), 16 + 5 + 14 + 14);
+        let both = first.plus(second);
+        assert_eq!(rt; each(both), (22, 4, 5, 4));
+        assert_eq!(rt; both.width(), 22 + 10 + 14 + 14);
     }
 
     // A list of one channel and LFE (4.3.3): the five places behind them are not told.
